@@ -66,7 +66,7 @@ fn all_paths(alloc: Global) -> Result<Vec<Path>, OutOfMemory> {
 }
 
 // How many of so many contexts are found on the hosts where they are looked for.
-fn found(hosts: &[HostStore], paths: &[Path], finds: u32) -> u32 {
+fn found_count(hosts: &[HostStore], paths: &[Path], finds: u32) -> u32 {
     let mut x: u64 = 1;
     let mut found: u32 = 0;
     for _ in 0..finds {
@@ -95,12 +95,12 @@ fn main(rt: HostRuntime) -> io::Result<()> {
         return println!(rt; "out of memory");
     };
     let Some(runs) = number(words.next()) else {
-        let found = found(&hosts, &paths, finds);
+        let found = found_count(&hosts, &paths, finds);
         return println!(rt; "found {found}");
     };
     for _ in 0..runs {
         let start = Instant::now(&rt)?;
-        let found = found(&hosts, &paths, finds);
+        let found = found_count(&hosts, &paths, finds);
         let took = start.elapsed(&rt)?.as_nanos();
         println!(rt; "{took} {found}")?;
     }

@@ -9,7 +9,7 @@ use Rattle.wave_base.specs.Shapes.{IsShape}
 use Rattle.wave_text.proofs.SplitLemmas.{one_split}
 use Rattle.checkpoint_store.specs.declared.error.Fault.{Fault}
 use Rattle.checkpoint_store.specs.declared.numbers.Numbers.{Numbers}
-use Rattle.checkpoint_store.specs.CheckpointTexts.{first_line, numbers_text, count_text, class_text, ended, front_text}
+use Rattle.checkpoint_store.specs.CheckpointTexts.{first_line, numbers_text, count_text, class_text, lines_text, front_text}
 use Rattle.checkpoint_store.specs.Dues.{Due, ClassOf, front_dues}
 use Rattle.checkpoint_store.specs.Verdicts.{StopsAt, HasFront}
 use Rattle.checkpoint_store.proofs.FormLemmas.{Fits, one_numbers}
@@ -20,7 +20,7 @@ abbrev pub class_dues : List ClassInfo → List Due
 class_dues cs = map (λ c. ClassOf c) cs
 
 abbrev pub classes_text : Shape → List ClassInfo → List ℕ
-classes_text shape cs = ended (map (class_text shape) cs)
+classes_text shape cs = lines_text (map (class_text shape) cs)
 
 module _ (shape : Shape) where
   pub passes_classes : (cs : List ClassInfo) → AllByRecursion (IsDeclared shape) cs → (rest : List ℕ) → Passes shape 0 (class_dues cs) (classes_text shape cs ++ rest) rest

@@ -15,7 +15,7 @@ use Rattle.checkpoint_store.specs.declared.point.Checkpoint.{Checkpoint}
 use Rattle.checkpoint_store.specs.CheckpointTexts.{front_text}
 use Rattle.checkpoint_store.specs.Dues.{front_dues}
 use Rattle.checkpoint_store.specs.Points.{AreInRange, IsPoint}
-use Rattle.checkpoint_store.specs.Refusals.{refused}
+use Rattle.checkpoint_store.specs.Refusals.{error_at}
 use Rattle.checkpoint_store.specs.Verdicts.{snapshot_part, behind_part, HasFront, HasTail, IsWrongTail, IsOnlyVerdict}
 use Rattle.checkpoint_store.specs.inner.Steps.{refusal_behind, StopsWith, IsTailRefusal, IsShotRefusal}
 use Rattle.checkpoint_store.proofs.PartLemmas.{part_short}
@@ -33,7 +33,7 @@ module _ (shape : Shape) (is : IsShape shape) (names : HasNames shape) (text : L
   front_said e (inl w) = wanting e w
   front_said e (inr r) =
       let same : 0 + r.1 ≡ r.1 = omega arith in
-      subst IsSaid (sym (r.3 ∙ ap (refused r.0) same)) (stops_front shape is names text r.0 r.1 r.2)
+      subst IsSaid (sym (r.3 ∙ ap (error_at r.0) same)) (stops_front shape is names text r.0 r.1 r.2)
 
   module _ (n : Numbers) (rest : List ℕ) (front : HasFront shape n text rest) where
     pub shots_said : (part : List ℕ) → part ≡ snapshot_part rest → (before : ℕ) → before ≡ 3 + length shape.classes → (e : CheckError) → IsShotRefusal shape part before e → IsSaid e
@@ -47,7 +47,7 @@ module _ (shape : Shape) (is : IsShape shape) (names : HasNames shape) (text : L
       pub tail_said : (before : ℕ) → before ≡ 3 + length shape.classes + 1 + length shots → (e : CheckError) → IsTailRefusal shape n.hosts (paths_of shots) tail before e → IsSaid e
       tail_said before at e (inl w) = wanting e w
       tail_said before at e (inr r) =
-          subst IsSaid (sym (r.3 ∙ ap (λ b. refused r.0 (b + r.1)) at))
+          subst IsSaid (sym (r.3 ∙ ap (λ b. error_at r.0 (b + r.1)) at))
           (stops_tail shape is names text n rest front shots read_here r.0 r.1 (subst (λ t. IsWrongTail shape n.hosts (paths_of shots) t r.0 r.1) tail_is r.2))
 
       module _ (places : List Place) (placed : HasTail shape n.hosts (paths_of shots) places tail []) (few : length shots ≤ 1000000000) where

@@ -11,7 +11,7 @@ use Rattle.checkpoint_store.specs.declared.error.Fault.{Fault}
 use Rattle.checkpoint_store.specs.declared.form.Form.{Form}
 use Rattle.checkpoint_store.specs.declared.form.Form.TheVariants as form
 use Rattle.checkpoint_store.specs.Dues.{Due, First, Counts, Classes, ClassOf, PlaceOf, Last, HasForm, IsDue, other, IsFault}
-use Rattle.checkpoint_store.specs.Refusals.{refused}
+use Rattle.checkpoint_store.specs.Refusals.{error_at}
 use Rattle.checkpoint_store.specs.Verdicts.{BeginsWrong}
 use Rattle.checkpoint_store.specs.inner.Steps.{HasNoNumbers, HasNoPlace, LooksLike, form_of, other_of, IsFaultBy, BeginsWrongBy, IsRefusal, BeginsOther, IsRefusalBy, IsRefusalFor, StopsWith}
 use Rattle.checkpoint_store.proofs.StopLemmas.{Passes, one_line, stops_behind, stops_here, stops_in}
@@ -49,7 +49,7 @@ module _ (shape : Shape) (hosts : ℕ) where
   wrong_by due text f n (inl a) = inl a
   wrong_by due text f n (inr a) = inr (a.0, a.1, a.2, fault_by due a.0 f (λ h. n a.1 (a.0, a.2, h)) a.3)
 
-pub refused_by : (form : Form) (text : List ℕ) (n : ℕ) (f : Fault) (e : CheckError) → BeginsWrongBy form text f → e ≡ refused f n → IsRefusalBy form text n e
+pub refused_by : (form : Form) (text : List ℕ) (n : ℕ) (f : Fault) (e : CheckError) → BeginsWrongBy form text f → e ≡ error_at f n → IsRefusalBy form text n e
 refused_by form text n f e w is shape hosts due same other =
     inr (f, wrong_by shape hosts due text f other (subst (λ x. BeginsWrongBy x text f) (sym same) w), is)
 
@@ -88,14 +88,14 @@ module _ (shape : Shape) (hosts : ℕ) where
       → StopsWith shape hosts (done ++ due ∷ more) text before e
   stops_with done due more text rest before n e p (inl w) same = inl w
   stops_with done due more text rest before n e p (inr r) same =
-      inr (r.0, length done + 1, stops_behind shape hosts done (due ∷ more) text rest r.0 1 p (stops_here shape hosts due more rest r.0 r.1), r.2 ∙ ap (refused r.0) same)
+      inr (r.0, length done + 1, stops_behind shape hosts done (due ∷ more) text rest r.0 1 p (stops_here shape hosts due more rest r.0 r.1), r.2 ∙ ap (error_at r.0) same)
 
   -- a later part is refused
   pub stops_after : (done more : List Due) (text rest : List ℕ) (before : ℕ) (e : CheckError) → Passes shape hosts done text rest → StopsWith shape hosts more rest (before + length done) e → StopsWith shape hosts (done ++ more) text before e
   stops_after done more text rest before e p (inl w) = inl w
   stops_after done more text rest before e p (inr r) =
       let same : before + length done + r.1 ≡ before + (length done + r.1) = omega arith in
-      inr (r.0, length done + r.1, stops_behind shape hosts done more text rest r.0 r.1 p r.2, r.3 ∙ ap (refused r.0) same)
+      inr (r.0, length done + r.1, stops_behind shape hosts done more text rest r.0 r.1 p r.2, r.3 ∙ ap (error_at r.0) same)
 
   -- an earlier one
   pub stops_before : (done more : List Due) (text : List ℕ) (before : ℕ) (e : CheckError) → StopsWith shape hosts done text before e → StopsWith shape hosts (done ++ more) text before e

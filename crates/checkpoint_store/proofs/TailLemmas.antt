@@ -12,7 +12,7 @@ use Rattle.wave_text.proofs.SplitLemmas.{one_split}
 use Rattle.path_text.specs.Found.{IsPath}
 use Rattle.path_text.specs.PlaceTexts.{place_text}
 use Rattle.checkpoint_store.specs.declared.error.Fault.{Fault}
-use Rattle.checkpoint_store.specs.CheckpointTexts.{ended, tail_text}
+use Rattle.checkpoint_store.specs.CheckpointTexts.{lines_text, tail_text}
 use Rattle.checkpoint_store.specs.Dues.{Due, PlaceOf, Last, tail_dues}
 use Rattle.checkpoint_store.specs.Verdicts.{StopsAt, HasTail, IsWrongTail}
 use Rattle.checkpoint_store.proofs.FormLemmas.{Fits, one_host}
@@ -23,7 +23,7 @@ abbrev pub place_dues : List Path → List Due
 place_dues ps = map (λ p. PlaceOf p) ps
 
 abbrev pub places_text : Shape → List Place → List ℕ
-places_text shape xs = ended (map (place_text shape) xs)
+places_text shape xs = lines_text (map (place_text shape) xs)
 
 abbrev pub paths_in : List Place → List Path
 paths_in xs = map (λ x. x.path) xs

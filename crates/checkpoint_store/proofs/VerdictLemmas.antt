@@ -12,7 +12,7 @@ use Rattle.snapshot_text.specs.declared.error.Fault.{Fault as ShotFault}
 use Rattle.snapshot_text.specs.declared.error.Fault.TheVariants as snapshot
 use Rattle.snapshot_text.specs.declared.error.ShotError.{ShotError}
 use Rattle.snapshot_text.specs.declared.error.ShotError.TheVariants as shot
-use Rattle.snapshot_text.specs.Refusals.{refused as refused_shot}
+use Rattle.snapshot_text.specs.Refusals.{error_at as refused_shot}
 use Rattle.snapshot_text.specs.Shots.{IsShot, paths_of}
 use Rattle.snapshot_text.specs.SnapshotTexts.{IsSnapshotText, snapshot_text}
 use Rattle.snapshot_text.specs.Verdicts.{IsRefused as IsRefusedSnapshot, IsVerdict as IsSnapshotVerdict, IsOnlyVerdict as IsOnlySnapshot}
@@ -25,7 +25,7 @@ use Rattle.checkpoint_store.specs.declared.point.Checkpoint.{Checkpoint}
 use Rattle.checkpoint_store.specs.CheckpointTexts.{front_text, tail_text, checkpoint_text, IsCheckpointText}
 use Rattle.checkpoint_store.specs.Dues.{front_dues}
 use Rattle.checkpoint_store.specs.Points.{AreInRange, IsPoint, numbers_of}
-use Rattle.checkpoint_store.specs.Refusals.{refused}
+use Rattle.checkpoint_store.specs.Refusals.{error_at}
 use Rattle.checkpoint_store.specs.Verdicts.{StopsAt, snapshot_part, behind_part, fault_of, HasFront, HasTail, IsWrongTail, IsRefusedShot, IsRefusedTail, IsRefused, IsVerdict, IsOnlyVerdict}
 use Rattle.checkpoint_store.specs.inner.Steps.{refusal_behind}
 use Rattle.checkpoint_store.proofs.FrontLemmas.{one_front, front_goes, one_front_stop}
@@ -49,19 +49,19 @@ module _ (shape : Shape) (is : IsShape shape) (names : HasNames shape) (text : L
 
   -- ---- a verdict that refuses, by its fault and its line
 
-  other_errors : (r : Verdict) → ((f : Fault) (n : ℕ) → IsRefused shape text f n → ◌≡◌ {A = Verdict} (Err (refused f n)) r) → (e : CheckError) → IsVerdict shape text (Err e) → ◌≡◌ {A = Verdict} (Err e) r
+  other_errors : (r : Verdict) → ((f : Fault) (n : ℕ) → IsRefused shape text f n → ◌≡◌ {A = Verdict} (Err (error_at f n)) r) → (e : CheckError) → IsVerdict shape text (Err e) → ◌≡◌ {A = Verdict} (Err e) r
   other_errors r f (error.Syntax n) v = f fault.Syntax n v
   other_errors r f (error.Service n) v = f fault.Service n v
   other_errors r f (error.Tree n) v = f fault.Tree n v
   other_errors r f (error.OutOfMemory w) v = absurd v
 
-  refused_is : (f : Fault) (n : ℕ) → IsRefused shape text f n → ((other : Verdict) → IsVerdict shape text other → other ≡ Err (refused f n)) → IsOnlyVerdict shape text (Err (refused f n))
+  refused_is : (f : Fault) (n : ℕ) → IsRefused shape text f n → ((other : Verdict) → IsVerdict shape text other → other ≡ Err (error_at f n)) → IsOnlyVerdict shape text (Err (error_at f n))
   refused_is fault.Syntax n h only = (h, only)
   refused_is fault.Service n h only = (h, only)
   refused_is fault.Tree n h only = (h, only)
 
-  same_error : (f g : Fault) (n m : ℕ) → f ≡ g → n ≡ m → ◌≡◌ {A = Verdict} (Err (refused f n)) (Err (refused g m))
-  same_error f g n m e h = λ i. Err (refused (e i) (h i))
+  same_error : (f g : Fault) (n m : ℕ) → f ≡ g → n ≡ m → ◌≡◌ {A = Verdict} (Err (error_at f n)) (Err (error_at g m))
+  same_error f g n m e h = λ i. Err (error_at (e i) (h i))
 
   -- ---- the parts of a text that was written
 
@@ -84,20 +84,20 @@ module _ (shape : Shape) (is : IsShape shape) (names : HasNames shape) (text : L
 
   -- ---- the front is refused
 
-  pub stops_front : (f : Fault) (n : ℕ) → StopsAt shape 0 (front_dues shape) text f n → IsOnlyVerdict shape text (Err (refused f n))
+  pub stops_front : (f : Fault) (n : ℕ) → StopsAt shape 0 (front_dues shape) text f n → IsOnlyVerdict shape text (Err (error_at f n))
   stops_front f n s = refused_is f n (inl s) only
     where
       no_front : (m : Numbers) (rest : List ℕ) → HasFront shape m text rest → ⊥
       no_front m rest h = front_goes shape is names m text rest f n h s
 
-      refusal : (g : Fault) (m : ℕ) → IsRefused shape text g m → ◌≡◌ {A = Verdict} (Err (refused g m)) (Err (refused f n))
+      refusal : (g : Fault) (m : ℕ) → IsRefused shape text g m → ◌≡◌ {A = Verdict} (Err (error_at g m)) (Err (error_at f n))
       refusal g m (inl h) = (let o = one_front_stop shape is names text g f m n h s in same_error g f m n o.0 o.1)
       refusal g m (inr (inl h)) = absurd (no_front h.numbers h.rest h.front)
       refusal g m (inr (inr h)) = absurd (no_front h.numbers h.rest h.front)
 
-      only : (other : Verdict) → IsVerdict shape text other → other ≡ Err (refused f n)
+      only : (other : Verdict) → IsVerdict shape text other → other ≡ Err (error_at f n)
       only (Ok p) v = (let parts = has_parts p v in absurd (no_front (numbers_of p) parts.rest parts.front))
-      only (Err e) v = other_errors (Err (refused f n)) refusal e v
+      only (Err e) v = other_errors (Err (error_at f n)) refusal e v
 
   -- ---- behind a front
 
@@ -115,7 +115,7 @@ module _ (shape : Shape) (is : IsShape shape) (names : HasNames shape) (text : L
     shot_verdict snapshot.Field n h = h
     shot_verdict snapshot.Order n h = h
 
-    moved_is : (f : ShotFault) (n b : ℕ) → refusal_behind (refused_shot f n) b ≡ refused (fault_of f) (b + n)
+    moved_is : (f : ShotFault) (n b : ℕ) → refusal_behind (refused_shot f n) b ≡ error_at (fault_of f) (b + n)
     moved_is snapshot.Syntax n b = refl
     moved_is snapshot.Class n b = refl
     moved_is snapshot.Field n b = refl
@@ -128,7 +128,7 @@ module _ (shape : Shape) (is : IsShape shape) (names : HasNames shape) (text : L
       no_shots : (ss : List Shot) (left : List ℕ) → left ≡ rest → IsSnapshotText shape (snapshot_part left) ss → ⊥
       no_shots ss left e h = (let same = sole (Ok ss) (subst (λ r. IsSnapshotText shape (snapshot_part r) ss) e h) in cc)
 
-      shot_refusal : (g : Fault) (m : ℕ) → IsRefused shape text g m → ◌≡◌ {A = Verdict} (Err (refused g m)) (Err (refused (fault_of f) (before + n)))
+      shot_refusal : (g : Fault) (m : ℕ) → IsRefused shape text g m → ◌≡◌ {A = Verdict} (Err (error_at g m)) (Err (error_at (fault_of f) (before + n)))
       shot_refusal g m (inl h) = absurd (no_stop g m h)
       shot_refusal g m (inr (inl h)) =
           let same = same_front h.numbers h.rest h.front in
@@ -139,15 +139,15 @@ module _ (shape : Shape) (is : IsShape shape) (names : HasNames shape) (text : L
           ∙ ap (λ e. Err e) (sym (moved_is h.wrong h.line before) ∙ ap (λ e. refusal_behind e before) inside ∙ moved_is f n before)
       shot_refusal g m (inr (inr h)) = absurd (no_shots h.shots h.rest (same_front h.numbers h.rest h.front).1 h.snapshot)
 
-      stops_shot : IsOnlyVerdict shape text (Err (refused (fault_of f) (before + n)))
+      stops_shot : IsOnlyVerdict shape text (Err (error_at (fault_of f) (before + n)))
       stops_shot = refused_is (fault_of f) (before + n) (inr (inl here)) only
         where
           here : IsRefusedShot shape text (fault_of f) (before + n)
           here = record { numbers = numbers; rest = rest; front = front; wrong = f; line = n; refused = wrong; fault_is = refl; line_is = refl }
 
-          only : (other : Verdict) → IsVerdict shape text other → other ≡ Err (refused (fault_of f) (before + n))
+          only : (other : Verdict) → IsVerdict shape text other → other ≡ Err (error_at (fault_of f) (before + n))
           only (Ok p) v = (let parts = has_parts p v in absurd (no_shots p.start.shots parts.rest (same_front (numbers_of p) parts.rest parts.front).1 parts.snapshot))
-          only (Err e) v = other_errors (Err (refused (fault_of f) (before + n))) shot_refusal e v
+          only (Err e) v = other_errors (Err (error_at (fault_of f) (before + n))) shot_refusal e v
 
     pub stops_snapshot : (s : ShotError) → IsOnlySnapshot shape (snapshot_part rest) (Err s) → IsOnlyVerdict shape text (Err (refusal_behind s before))
     stops_snapshot (shot.Syntax n) h = stops_shot snapshot.Syntax n h.0 h.1
@@ -178,7 +178,7 @@ module _ (shape : Shape) (is : IsShape shape) (names : HasNames shape) (text : L
         moved_wrong g m hosts ss left a b c w =
             subst (λ h. IsWrongTail shape h (paths_of shots) (behind_part rest) g m) a (subst (λ s. IsWrongTail shape hosts (paths_of s) (behind_part rest) g m) b (subst (λ r. IsWrongTail shape hosts (paths_of ss) (behind_part r) g m) c w))
 
-        tail_refusal : (g : Fault) (m : ℕ) → IsRefused shape text g m → ◌≡◌ {A = Verdict} (Err (refused g m)) (Err (refused f (before + 1 + length shots + n)))
+        tail_refusal : (g : Fault) (m : ℕ) → IsRefused shape text g m → ◌≡◌ {A = Verdict} (Err (error_at g m)) (Err (error_at f (before + 1 + length shots + n)))
         tail_refusal g m (inl h) = absurd (no_stop g m h)
         tail_refusal g m (inr (inl h)) = absurd (no_error h.wrong h.line (subst (λ r. IsRefusedSnapshot shape (snapshot_part r) h.wrong h.line) (same_front h.numbers h.rest h.front).1 h.refused))
         tail_refusal g m (inr (inr h)) =
@@ -187,13 +187,13 @@ module _ (shape : Shape) (is : IsShape shape) (names : HasNames shape) (text : L
             let o = one_wrong_tail shape names numbers.hosts few (paths_of shots) paths is (behind_part rest) g f h.line n (moved_wrong g h.line h.numbers.hosts h.shots h.rest (ap (λ (x : Numbers). x.hosts) same.0) ss same.1 h.wrong) wrong in
             same_error g f m (before + 1 + length shots + n) o.0 (h.line_is ∙ (λ i. before + 1 + length (ss i) + o.1 i))
 
-        pub stops_tail : IsOnlyVerdict shape text (Err (refused f (before + 1 + length shots + n)))
+        pub stops_tail : IsOnlyVerdict shape text (Err (error_at f (before + 1 + length shots + n)))
         stops_tail = refused_is f (before + 1 + length shots + n) (inr (inr here)) only
           where
             here : IsRefusedTail shape text f (before + 1 + length shots + n)
             here = record { numbers = numbers; rest = rest; front = front; shots = shots; snapshot = read.0; line = n; wrong = wrong; line_is = refl }
 
-            only : (other : Verdict) → IsVerdict shape text other → other ≡ Err (refused f (before + 1 + length shots + n))
+            only : (other : Verdict) → IsVerdict shape text other → other ≡ Err (error_at f (before + 1 + length shots + n))
             only (Ok p) v =
                 let parts = has_parts p v in
                 let same = same_front (numbers_of p) parts.rest parts.front in
@@ -202,7 +202,7 @@ module _ (shape : Shape) (is : IsShape shape) (names : HasNames shape) (text : L
                 let tail : HasTail shape numbers.hosts (paths_of shots) p.start.places (behind_part rest) [] =
                 subst (λ h. HasTail shape h (paths_of shots) p.start.places (behind_part rest) []) hosts (subst (λ s. HasTail shape p.hosts (paths_of s) p.start.places (behind_part rest) []) ss (subst (λ r. HasTail shape p.hosts (paths_of p.start.shots) p.start.places (behind_part r) []) same.1 parts.tail)) in
                 absurd (tail_goes shape names numbers.hosts few (paths_of shots) paths is p.start.places (behind_part rest) f n tail wrong)
-            only (Err e) v = other_errors (Err (refused f (before + 1 + length shots + n))) tail_refusal e v
+            only (Err e) v = other_errors (Err (error_at f (before + 1 + length shots + n))) tail_refusal e v
 
       -- ---- all is read
 
@@ -218,7 +218,7 @@ module _ (shape : Shape) (is : IsShape shape) (names : HasNames shape) (text : L
         pub is_read : IsPoint shape point → IsOnlyVerdict shape text (Ok point)
         is_read fits = (record { spelled = spelled; point = fits; shots = read.0.shots_are }, only)
           where
-            refusal : (g : Fault) (m : ℕ) → IsRefused shape text g m → ◌≡◌ {A = Verdict} (Err (refused g m)) (Ok point)
+            refusal : (g : Fault) (m : ℕ) → IsRefused shape text g m → ◌≡◌ {A = Verdict} (Err (error_at g m)) (Ok point)
             refusal g m (inl h) = absurd (no_stop g m h)
             refusal g m (inr (inl h)) = absurd (no_error h.wrong h.line (subst (λ r. IsRefusedSnapshot shape (snapshot_part r) h.wrong h.line) (same_front h.numbers h.rest h.front).1 h.refused))
             refusal g m (inr (inr h)) =

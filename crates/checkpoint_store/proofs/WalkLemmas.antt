@@ -16,7 +16,7 @@ use Rattle.checkpoint_store.specs.declared.error.CheckError.TheVariants as error
 use Rattle.checkpoint_store.specs.declared.error.Fault.TheVariants as fault
 use Rattle.checkpoint_store.specs.declared.form.Form.TheVariants as form
 use Rattle.checkpoint_store.specs.declared.numbers.Numbers.{Numbers}
-use Rattle.checkpoint_store.specs.CheckpointTexts.{first_line, numbers_text, count_text, class_text, ended, front_text}
+use Rattle.checkpoint_store.specs.CheckpointTexts.{first_line, numbers_text, count_text, class_text, lines_text, front_text}
 use Rattle.checkpoint_store.specs.Dues.{Due, First, Counts, Classes, ClassOf, PlaceOf, Last, IsDue, front_dues, tail_dues}
 use Rattle.checkpoint_store.specs.Verdicts.{HasFront, HasTail}
 use Rattle.checkpoint_store.specs.inner.Steps.{BeginsWithNumbers, IsPlaceLineOf, HasPlaces, IsRefusal, IsRefusalFor, StopsWith, IsTailRefusal, IsLastRefusal}
@@ -105,9 +105,9 @@ module _ (shape : Shape) (hosts : ℕ) where
   pub none_placed : (text : List ℕ) → HasPlaces shape hosts [] [] text text
   none_placed text = record { spelled = refl; paths_are = refl; below = All-nil IsBelow }
 
-  ended-append : (xs ys : List (List ℕ)) → ended (xs ++ ys) ≡ ended xs ++ ended ys
+  ended-append : (xs ys : List (List ℕ)) → lines_text (xs ++ ys) ≡ lines_text xs ++ lines_text ys
   ended-append [] ys = refl
-  ended-append (x ∷ xs) ys = ap (λ t. x ++ 10 ∷ t) (ended-append xs ys) ∙ sym (append_assoc x (10 ∷ ended xs) (ended ys))
+  ended-append (x ∷ xs) ys = ap (λ t. x ++ 10 ∷ t) (ended-append xs ys) ∙ sym (append_assoc x (10 ∷ lines_text xs) (lines_text ys))
 
   same_place : (x : Place) (p : Path) → x.path ≡ p → x ≡ record { path = p; host = x.host }
   same_place x p e = λ i. record { path = e i; host = x.host }
@@ -122,7 +122,7 @@ module _ (shape : Shape) (hosts : ℕ) where
         p.spelled ∙ ap (λ t. places_text shape xs ++ t) (split.spelled ∙ ap (λ l. l ++ 10 ∷ after) place.spelled)
         ∙ ap (λ t. places_text shape xs ++ t) (sym (append_assoc (place_text shape x) (10 ∷ []) after))
         ∙ sym (append_assoc (places_text shape xs) (place_text shape x ++ 10 ∷ []) after)
-        ∙ ap (λ t. t ++ after) (sym (ended-append (map (place_text shape) xs) (place_text shape x ∷ [])) ∙ ap ended (sym (map-append (place_text shape) xs (x ∷ [])) ∙ ap (map (place_text shape)) (sym added)));
+        ∙ ap (λ t. t ++ after) (sym (ended-append (map (place_text shape) xs) (place_text shape x ∷ [])) ∙ ap lines_text (sym (map-append (place_text shape) xs (x ∷ [])) ∙ ap (map (place_text shape)) (sym added)));
     paths_are = ap paths_in added ∙ map-append (λ y. y.path) xs (x ∷ []) ∙ (λ j. p.paths_are j ++ place.path_is j ∷ []) ∙ sym (paths_more shots i s h e);
     below = subst (All IsBelow) (sym added) (All-append IsBelow xs (x ∷ []) p.below (All-cons IsBelow x [] place.below (All-nil IsBelow)));
   }

@@ -49,18 +49,18 @@ abbrev pub class_text : Shape → ClassInfo → List ℕ
 class_text shape c = codes "class " ++ (c.name ++ 32 ∷ (parent_text shape c.parent ++ fields_text (map (λ f. (f.name, f.kind)) c.fields)))
 
 -- each line ends with a line feed
-abbrev pub ended : List (List ℕ) → List ℕ
-ended [] = []
-ended (l ∷ ls) = l ++ 10 ∷ ended ls
+abbrev pub lines_text : List (List ℕ) → List ℕ
+lines_text [] = []
+lines_text (l ∷ ls) = l ++ 10 ∷ lines_text ls
 
 abbrev pub front_text : Shape → Numbers → List ℕ
-front_text shape n = ended (first_line ∷ numbers_text n ∷ count_text shape ∷ map (class_text shape) shape.classes)
+front_text shape n = lines_text (first_line ∷ numbers_text n ∷ count_text shape ∷ map (class_text shape) shape.classes)
 
 -- ---- the tail
 
 -- place path h, for each context, and the last line
 abbrev pub tail_text : Shape → List Place → List ℕ
-tail_text shape places = ended (map (place_text shape) places) ++ (codes "end" ++ 10 ∷ [])
+tail_text shape places = lines_text (map (place_text shape) places) ++ (codes "end" ++ 10 ∷ [])
 
 -- ---- all of it
 

@@ -1,7 +1,7 @@
 //! Why a text is no checkpoint of a service.
 
 ghost use Rattle.std.specs.Prelude.{◌≡◌};
-ghost use Rattle.checkpoint_store.specs.Refusals.{refused};
+ghost use Rattle.checkpoint_store.specs.Refusals.{error_at};
 
 use thiserror::Error;
 use wave_base::OutOfMemory;
@@ -37,8 +37,8 @@ pub enum CheckError {
 }
 
 /// The error of a fault on a line.
-pub(crate) fn refused(fault: Fault, line: u32) -> CheckError
-    ensures { result ≡ refused fault line }
+pub(crate) fn error_at(fault: Fault, line: u32) -> CheckError
+    ensures { result ≡ error_at fault line }
 {
     match fault {
         Fault::Syntax => CheckError::Syntax { line },

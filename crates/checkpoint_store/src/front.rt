@@ -3,7 +3,7 @@
 ghost use Rattle.std.specs.Prelude.{◌≡◌, ◌<◌, ◌^◌, ◌++◌, length, map, IfOk, IfErr};
 ghost use Rattle.wave_base.specs.declared.shape.Shape.{Shape};
 ghost use Rattle.wave_text.specs.Splits.{IsSplit};
-ghost use Rattle.checkpoint_store.specs.CheckpointTexts.{count_text, class_text, ended};
+ghost use Rattle.checkpoint_store.specs.CheckpointTexts.{count_text, class_text, lines_text};
 ghost use Rattle.checkpoint_store.specs.Dues.{Counts, Classes, ClassOf, front_dues};
 ghost use Rattle.checkpoint_store.specs.Verdicts.{HasFront};
 ghost use Rattle.checkpoint_store.specs.inner.Steps.{BeginsWithNumbers, IsRefusal, StopsWith};
@@ -60,7 +60,7 @@ fn read_class<'t>(
 // What stands behind the lines of the classes.
 fn read_classes<'t>(alloc: Global, shape: &Shape, text: &'t [u8]) -> Result<&'t [u8], CheckError>
     requires { length shape.now.classes < 2 ^ 16 }
-    ensures ok { IfOk result (λ rest. text.now ≡ ended (map (class_text shape.now) shape.now.classes) ++ rest.now) }
+    ensures ok { IfOk result (λ rest. text.now ≡ lines_text (map (class_text shape.now) shape.now.classes) ++ rest.now) }
     ensures err { IfErr result (StopsWith shape.now 0 (map (λ c. ClassOf c) shape.now.classes) text.now 3) }
 {
     let classes = shape.classes.as_slice();

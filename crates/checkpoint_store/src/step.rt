@@ -4,7 +4,7 @@ ghost use Rattle.std.specs.Prelude.{◌≡◌, IfOk, IfErr};
 ghost use Rattle.wave_text.specs.Splits.{IsSplit};
 ghost use Rattle.checkpoint_store.specs.inner.Steps.{other_of, BeginsWrongBy, IsRefusalBy, IsRefusalFor};
 
-use crate::error::{CheckError, Fault, refused};
+use crate::error::{CheckError, Fault, error_at};
 use crate::form::{Form, looks_like};
 use std::alloc::Global;
 use wave_base::OutOfMemory;
@@ -41,7 +41,7 @@ pub(crate) fn refusal(alloc: Global, form: Form, text: &[u8], number: u32) -> Ch
     ensures { IsRefusalBy form text.now number result }
 {
     match fault_of(alloc, form, text) {
-        Ok(fault) => refused(fault, number),
+        Ok(fault) => error_at(fault, number),
         Err(wanting) => CheckError::OutOfMemory(wanting),
     }
 }

@@ -2,7 +2,7 @@
 
 ghost use Rattle.std.specs.Prelude.{◌≡◌, ◌++◌, IfOk, OnOk, map};
 ghost use Rattle.path_text.specs.PlaceTexts.{place_text};
-ghost use Rattle.checkpoint_store.specs.CheckpointTexts.{ended, class_text, front_text, tail_text, IsCheckpointText};
+ghost use Rattle.checkpoint_store.specs.CheckpointTexts.{lines_text, class_text, front_text, tail_text, IsCheckpointText};
 ghost use Rattle.checkpoint_store.specs.Points.{IsPoint};
 
 use crate::class::{put_class, put_count};
@@ -16,7 +16,7 @@ use wave_text::put_bytes;
 
 // Appends a line for each class.
 fn put_classes(out: &mut Vec<u8>, shape: &Shape, classes: &[ClassInfo]) -> Result<(), OutOfMemory>
-    ensures { OnOk result (out.new.items ≡ out.old.items ++ ended (map (class_text shape.now) classes.now)) }
+    ensures { OnOk result (out.new.items ≡ out.old.items ++ lines_text (map (class_text shape.now) classes.now)) }
 {
     for class in classes {
         put_class(out, shape, class)?;
@@ -49,7 +49,7 @@ fn put_places(
     shape: &Shape,
     places: &[Place],
 ) -> Result<(), OutOfMemory>
-    ensures { OnOk result (out.new.items ≡ out.old.items ++ ended (map (place_text shape.now) places.now)) }
+    ensures { OnOk result (out.new.items ≡ out.old.items ++ lines_text (map (place_text shape.now) places.now)) }
 {
     for place in places {
         put_place(alloc, out, shape, place)?;

@@ -12,14 +12,14 @@ use Rattle.wave_base.specs.Tree.{Tree, enter, put}
 use Rattle.downgrade_views.specs.Levels.{Level}
 use Rattle.service_code.specs.declared.program.Program.{Program}
 use Rattle.service_verify.specs.Boxes.{Box, first_box}
-use Rattle.service_verify.specs.Copies.{Trip, tripped, trip_if, next_trip, trip_after, first_trip}
+use Rattle.service_verify.specs.Copies.{Trip, trip_with, trip_if, next_trip, trip_after, first_trip}
 use Rattle.service_verify.specs.Fit.{IsFit}
 use Rattle.service_verify.specs.Looks.{is_peeking}
 use Rattle.service_verify.specs.Points.{IsVerified}
 use Rattle.service_verify.specs.Segments.{Event, event_segment}
 use Rattle.service_verify.specs.Standing.{HasFields, HasTree, Leaves, Stands}
 use Rattle.service_verify.specs.Steps.{is_held}
-use Rattle.service_verify.specs.Tours.{Tour, halted}
+use Rattle.service_verify.specs.Tours.{Tour, tour_at_pause}
 use Rattle.service_verify.specs.Tours as tour
 use Rattle.service_verify.proofs.Locals.{begins}
 use Rattle.service_verify.proofs.Touring.{put_has}
@@ -41,10 +41,10 @@ event_of t = record { box = t.tour.box; levels = t.levels }
 
 -- what a pause makes of a trip
 abbrev pub trip_to : Trip → Box → List Level → Fields → Halt → Trip
-trip_to t b levels f why = record { tour = halted t.tour b f why; levels = levels }
+trip_to t b levels f why = record { tour = tour_at_pause t.tour b f why; levels = levels }
 
 -- each segment counts
-halted_counts : (t : Tour) (b : Box) (f : Fields) (why : Halt) → (halted t b f why).segments ≡ suc t.segments
+halted_counts : (t : Tour) (b : Box) (f : Fields) (why : Halt) → (tour_at_pause t b f why).segments ≡ suc t.segments
 halted_counts t b f (halt.Go s) = by (is_held t.box.held b.path)
   where
     by : (c : Bool) → (tour.into t b f c).segments ≡ suc t.segments
@@ -179,7 +179,7 @@ module _ (program : Program) (fit : IsFit program) (verified : IsVerified progra
     is_next = ap (segment_if actors x) w.running ∙ ap (λ (l : Left Event Fields EventResult). goes_on actors x l.actor l.fields l.pause) is_segment
 
     is_trip : next_trip program t ≡ trip_to t a.left.event.box a.left.event.levels a.left.fields a.left.pause
-    is_trip = ap (trip_if program t) running ∙ ap (tripped t) a.is_left
+    is_trip = ap (trip_if program t) running ∙ ap (trip_with t) a.is_left
 
     pub walks_on : Walked (next_alone actors x) (next_trip program t)
     walks_on = subst (λ y. Walked y (next_trip program t)) (sym is_next) (subst (Walked (goes_on actors x a.left.event a.left.fields (pause_of a.left.pause))) (sym is_trip)

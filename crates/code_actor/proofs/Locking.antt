@@ -14,12 +14,12 @@ use Rattle.wave_base.specs.Tree.{Tree}
 use Rattle.downgrade_views.specs.Levels.{Level}
 use Rattle.service_code.specs.declared.program.Program.{Program}
 use Rattle.service_verify.specs.Boxes.{Box, first_box}
-use Rattle.service_verify.specs.Copies.{Trip, tripped, trip_if, next_trip, trip_after, first_trip}
+use Rattle.service_verify.specs.Copies.{Trip, trip_with, trip_if, next_trip, trip_after, first_trip}
 use Rattle.service_verify.specs.Fit.{IsFit}
 use Rattle.service_verify.specs.Points.{IsVerified}
 use Rattle.service_verify.specs.Standing.{HasFields, HasTree, Leaves, Stands}
 use Rattle.service_verify.specs.Steps.{is_held}
-use Rattle.service_verify.specs.Tours.{Tour, halted, tour_after, first_tour}
+use Rattle.service_verify.specs.Tours.{Tour, tour_at_pause, tour_after, first_tour}
 use Rattle.service_verify.specs.Tours as tour
 use Rattle.service_verify.proofs.Copying.{copies_same}
 use Rattle.service_verify.proofs.Locals.{begins}
@@ -174,7 +174,7 @@ module _ (program : Program) (fit : IsFit program) (verified : IsVerified progra
         into_child : Into (is_held t.tour.box.held b.path)
         into_child = goes_into (is_held t.tour.box.held b.path) (ap (is_held t.tour.box.held) (sym at))
 
-      by : (why : Halt) → Leaves program p n (record { box = b; levels = levels }) why → Holding.Pauses t.tour.box.path t.tour.box.held b why → Locks t.tour (halted t.tour b left why) × Locking (trip_to t b levels left why)
+      by : (why : Halt) → Leaves program p n (record { box = b; levels = levels }) why → Holding.Pauses t.tour.box.path t.tour.box.held b why → Locks t.tour (tour_at_pause t.tour b left why) × Locking (trip_to t b levels left why)
       by (halt.Go s) l h = into_child s 0 l.1 (λ more child old only. go p n t.tour.box.held t.tour.entered g.locked s more child old only l.0 b.held is) (go_only t.tour.box.held (p ++ s ∷ []) b.held is)
         where
           is : b.held ≡ filter (is_above (p ++ s ∷ [])) (with_held t.tour.box.held (p ++ s ∷ []))
@@ -197,7 +197,7 @@ module _ (program : Program) (fit : IsFit program) (verified : IsVerified progra
     a = segment_runs program fit verified p n (event_of t) (t.tour.tree.fields t.tour.box.path) g.stands has_fields
 
     locks_on : Locks t.tour (next_trip program t).tour × Locking (next_trip program t)
-    locks_on = subst (λ u. Locks t.tour u.tour × Locking u) (sym (ap (trip_if program t) g.running ∙ ap (tripped t) a.is_left))
+    locks_on = subst (λ u. Locks t.tour u.tour × Locking u) (sym (ap (trip_if program t) g.running ∙ ap (trip_with t) a.is_left))
         (by a.left.event.box a.left.event.levels a.left.fields a.has a.left.pause a.leaves a.holds)
 
   next_locking : (t : Trip) → Locking t → Locking (next_trip program t)

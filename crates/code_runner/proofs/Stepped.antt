@@ -18,11 +18,11 @@ use Rattle.wave_base.specs.Trees.{FitsShape, HasKinds}
 use Rattle.context_tree.specs.Contexts.{Contexts, tree_of, is_there}
 use Rattle.service_code.specs.declared.program.Program.{Program}
 use Rattle.service_verify.specs.Boxes.{Box}
-use Rattle.service_verify.specs.Copies.{Trip, tripped, next_trip, first_trip}
+use Rattle.service_verify.specs.Copies.{Trip, trip_with, next_trip, first_trip}
 use Rattle.service_verify.specs.Segments.{Event, event_segment}
 use Rattle.service_verify.specs.Standing.{HasFields, Stands, Leaves}
 use Rattle.service_verify.specs.Steps.{is_held}
-use Rattle.service_verify.specs.Tours.{Fields, Tour, into, halted}
+use Rattle.service_verify.specs.Tours.{Fields, Tour, into, tour_at_pause}
 use Rattle.code_actor.specs.CodeActors.{first_event}
 use Rattle.code_actor.specs.Locks.{Enters, Locks, holds, has_entered}
 use Rattle.code_runner.specs.declared.walk.Walk.{Walk}
@@ -113,8 +113,8 @@ module _ (program : Program) (w : Walk) (tree : Tree Fields) (walks : Walks prog
   abbrev t : Trip
   t = trip_of w tree None
 
-  pub is_next : next_trip program t ≡ record { tour = halted t.tour e.box left why; levels = e.levels }
-  is_next = ap (tripped t) (ap (event_segment program w.event.event) (sym same) ∙ is)
+  pub is_next : next_trip program t ≡ record { tour = tour_at_pause t.tour e.box left why; levels = e.levels }
+  is_next = ap (trip_with t) (ap (event_segment program w.event.event) (sym same) ∙ is)
 
   -- what the call has become
   module _ (w' : Walk) (tree' : Tree Fields) (event : w'.event.event ≡ e) (segments : w'.segments ≡ suc w.segments) where
@@ -126,8 +126,8 @@ module _ (program : Program) (w : Walk) (tree : Tree Fields) (walks : Walks prog
     by_into false n r i = record { tour = record { box = (event i).box; tree = r i; entered = n i; segments = segments i; result = None }; levels = (event i).levels }
 
     next_into : IsInto why → next_trip program t ≡ record { tour = into t.tour e.box left (is_held t.tour.box.held e.box.path); levels = e.levels }
-    next_into (inl is) = subst (λ y. next_trip program t ≡ record { tour = halted t.tour e.box left y; levels = e.levels }) is.1 is_next
-    next_into (inr is) = subst (λ y. next_trip program t ≡ record { tour = halted t.tour e.box left y; levels = e.levels }) is.1 is_next
+    next_into (inl is) = subst (λ y. next_trip program t ≡ record { tour = tour_at_pause t.tour e.box left y; levels = e.levels }) is.1 is_next
+    next_into (inr is) = subst (λ y. next_trip program t ≡ record { tour = tour_at_pause t.tour e.box left y; levels = e.levels }) is.1 is_next
 
     pub stepped_into : IsInto why → w'.entered.items ≡ paths_into (list_any (path_eq e.box.path) w.entered.items) w.entered.items e.box.path → tree' ≡ tree_into (list_any (path_eq e.box.path) w.entered.items) left_tree e.box.path → trip_of w' tree' None ≡ next_trip program t
     stepped_into i n r =
@@ -137,7 +137,7 @@ module _ (program : Program) (w : Walk) (tree : Tree Fields) (walks : Walks prog
         by_into c (subst (λ d. w'.entered.items ≡ paths_into d w.entered.items e.box.path) told n) (subst (λ d. tree' ≡ tree_into d left_tree e.box.path) told r) ∙ sym next
 
     pub stepped_back : why ≡ halt.Back → w'.entered.items ≡ w.entered.items → tree' ≡ left_tree → trip_of w' tree' None ≡ next_trip program t
-    stepped_back is n r = let next = subst (λ y. next_trip program t ≡ record { tour = halted t.tour e.box left y; levels = e.levels }) is is_next in (λ i. record { tour = record { box = (event i).box; tree = r i; entered = n i; segments = segments i; result = None }; levels = (event i).levels }) ∙ sym next
+    stepped_back is n r = let next = subst (λ y. next_trip program t ≡ record { tour = tour_at_pause t.tour e.box left y; levels = e.levels }) is is_next in (λ i. record { tour = record { box = (event i).box; tree = r i; entered = n i; segments = segments i; result = None }; levels = (event i).levels }) ∙ sym next
 
     pub stepped_over : (o : EventResult) → why ≡ halt.Over o → w'.entered.items ≡ w.entered.items → tree' ≡ left_tree → trip_of w' tree' (Some o) ≡ next_trip program t
-    stepped_over o is n r = let next = subst (λ y. next_trip program t ≡ record { tour = halted t.tour e.box left y; levels = e.levels }) is is_next in (λ i. record { tour = record { box = (event i).box; tree = r i; entered = n i; segments = segments i; result = Some o }; levels = (event i).levels }) ∙ sym next
+    stepped_over o is n r = let next = subst (λ y. next_trip program t ≡ record { tour = tour_at_pause t.tour e.box left y; levels = e.levels }) is is_next in (λ i. record { tour = record { box = (event i).box; tree = r i; entered = n i; segments = segments i; result = Some o }; levels = (event i).levels }) ∙ sym next

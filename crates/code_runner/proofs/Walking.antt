@@ -21,12 +21,12 @@ use Rattle.context_tree.proofs.FitLemmas.{enter_fits}
 use Rattle.downgrade_views.specs.Levels.{Level}
 use Rattle.service_code.specs.declared.program.Program.{Program}
 use Rattle.service_verify.specs.Boxes.{Box, first_box}
-use Rattle.service_verify.specs.Copies.{Trip, tripped, trip_if, next_trip, trip_after, first_trip}
+use Rattle.service_verify.specs.Copies.{Trip, trip_with, trip_if, next_trip, trip_after, first_trip}
 use Rattle.service_verify.specs.Fit.{IsFit}
 use Rattle.service_verify.specs.Points.{IsVerified}
 use Rattle.service_verify.specs.Standing.{AreCalls, HasFields, HasTree, Leaves, Stands}
 use Rattle.service_verify.specs.Steps.{is_held}
-use Rattle.service_verify.specs.Tours.{Fields, Tour, tree_with, into, halted, tour_if, next_tour, tour_after, first_tour, most_segments, code_tour}
+use Rattle.service_verify.specs.Tours.{Fields, Tour, tree_with, into, tour_at_pause, tour_if, next_tour, tour_after, first_tour, most_segments, code_tour}
 use Rattle.service_verify.proofs.Copying.{copies_same}
 use Rattle.service_verify.proofs.Locals.{begins}
 use Rattle.service_verify.proofs.Touring.{code_ends}
@@ -152,12 +152,12 @@ module _ (program : Program) (fit : IsFit program) (verified : IsVerified progra
                 last : (a b : Bool) → (a || false) ≡ true → (a || b) ≡ true
                 last a b e = grind arith
 
-      by : (why : Halt) → Leaves program p h.calls (record { box = b; levels = levels }) why → At (record { tour = halted t.tour b left why; levels = levels })
+      by : (why : Halt) → Leaves program p h.calls (record { box = b; levels = levels }) why → At (record { tour = tour_at_pause t.tour b left why; levels = levels })
       by (halt.Go s) l = on (into_here s 0 l.1 (is_held t.tour.box.held b.path) refl)
       by (halt.Down s) l = on (into_here s (suc h.calls) l (is_held t.tour.box.held b.path) refl)
       by halt.Back l = back h.calls l
         where
-          back : (n : ℕ) → Leaves program p n (record { box = b; levels = levels }) halt.Back → At (record { tour = halted t.tour b left halt.Back; levels = levels })
+          back : (n : ℕ) → Leaves program p n (record { box = b; levels = levels }) halt.Back → At (record { tour = tour_at_pause t.tour b left halt.Back; levels = levels })
           back zero l = absurd l
           back (suc m) l = on (record { path = parent_of p; calls = m; running = refl; stands = l; fits = fits; here = at_there (λ q. there t.tour.tree (parent_of q) ≡ true) p t.tour.tree.paths h.fits.parents h.here; entered = h.entered; root = h.root })
       by (halt.Over r) l = over (record { result = r; is = refl; fits = fits; root = h.root; created = l })
@@ -166,7 +166,7 @@ module _ (program : Program) (fit : IsFit program) (verified : IsVerified progra
     a = segment_runs program fit verified p h.calls (event_of t) (t.tour.tree.fields t.tour.box.path) h.stands has_fields
 
     at_next : At (next_trip program t)
-    at_next = subst At (sym (ap (trip_if program t) h.running ∙ ap (tripped t) a.is_left)) (by a.left.event.box a.left.event.levels a.left.fields a.has a.left.pause a.leaves)
+    at_next = subst At (sym (ap (trip_if program t) h.running ∙ ap (trip_with t) a.is_left)) (by a.left.event.box a.left.event.levels a.left.fields a.has a.left.pause a.leaves)
 
   module _ (call : Call) (tree : Tree Fields) (is_job : IsJob program call) (tree_fits : FitsShape program.shape tree) (root : there tree [] ≡ true) where
     abbrev trip : ℕ → Trip

@@ -18,7 +18,7 @@ use Rattle.wave_base.specs.declared.pause.Pause.TheVariants as pause
 use Rattle.value_ops.specs.Kinds.{Answer}
 use Rattle.resolved_service.specs.Meaning.{State, with_world, enter_at}
 use Rattle.resolved_service.specs.World as world
-use Rattle.resolved_service.specs.World.{World, child, changed, with_entered, releasing, has}
+use Rattle.resolved_service.specs.World.{World, child, after_change, with_entered, releasing, has}
 use Rattle.service_code.specs.declared.instr.Instr.{Instr}
 use Rattle.service_code.specs.declared.instr.Instr.TheVariants as i
 use Rattle.service_code.specs.declared.program.Function.{Function}
@@ -27,8 +27,8 @@ use Rattle.service_verify.specs.Boxes.{Box, first_locals}
 use Rattle.service_verify.specs.Fit.{IsFit}
 use Rattle.service_verify.specs.Points.{IsVerified}
 use Rattle.service_verify.specs.Standing.{IsCaller}
-use Rattle.service_verify.specs.Steps.{Move, Runs, Paused, with_some, taken, trapped, is_held, on_int, entering, returned, with_result}
-use Rattle.service_verify.specs.Tours.{Tour, Fields, into, halted}
+use Rattle.service_verify.specs.Steps.{Move, Runs, Paused, with_some, taken_values, trap_move, is_held, on_int, entering, frame_with_result, with_result}
+use Rattle.service_verify.specs.Tours.{Tour, Fields, into, tour_at_pause}
 use Rattle.code_scheme.proofs.Micro.{resumed}
 use Rattle.code_scheme.proofs.Follow.{Here, frame_of, box_of, tour_of, SameHeld, IsOver, Moving, At, Leads, Follows, move_at, IsLine, moving, leads, arrives, traps}
 use Rattle.code_scheme.proofs.Finding.{back_if, callee_of, held_below, held_more, parent_child, pushed, take_pushed}
@@ -39,8 +39,8 @@ module _ (program : Program) (fit : IsFit program) (verified : IsVerified progra
     long_more : (ps : List Path) → suc (length ps) ≡ length (ps ++ q ∷ [])
     long_more ps = omega (arith, length-append ps (q ∷ []))
 
-    pub enter_runs : (keep : List Path → List Path) (keeps : (held l : List Path) → SameHeld held l → SameHeld (keep held) (keep l)) (why : Pause) (goes : (b : Box) (fields : Fields) → halted (tour_of h pc s st a.held) b fields why ≡ into (tour_of h pc s st a.held) b fields (is_held a.held b.path)) →
-        move_at program fit verified h pc s st a.held ins at ≡ entering q (box_of h pc s st a.held) (λ b. Paused (record b { frames = frame_of h' pc' s' locals ∷ h'.below; path = q; held = keep b.held }) (st.world.tree.fields h.at) why) (trapped trap.Reach at (box_of h pc s st a.held) (st.world.tree.fields h.at)) →
+    pub enter_runs : (keep : List Path → List Path) (keeps : (held l : List Path) → SameHeld held l → SameHeld (keep held) (keep l)) (why : Pause) (goes : (b : Box) (fields : Fields) → tour_at_pause (tour_of h pc s st a.held) b fields why ≡ into (tour_of h pc s st a.held) b fields (is_held a.held b.path)) →
+        move_at program fit verified h pc s st a.held ins at ≡ entering q (box_of h pc s st a.held) (λ b. Paused (record b { frames = frame_of h' pc' s' locals ∷ h'.below; path = q; held = keep b.held }) (st.world.tree.fields h.at) why) (trap_move trap.Reach at (box_of h pc s st a.held) (st.world.tree.fields h.at)) →
         Follows program fit verified c (λ u st' d. At program fit verified h' pc' s' (record { locals = locals; world = record st'.world { held = keep st'.world.held } }) d) (λ u st'. (st'.locals ≡ st.locals) × (st'.world.ticks ≡ st.world.ticks)) (enter_at q at st)
     unfolding world.entering
     enter_runs keep keeps why goes m = by (is_held a.held q) (nat_lt (length st.world.entered) CONTEXTS) refl refl (sym (a.same q))
@@ -49,7 +49,7 @@ module _ (program : Program) (fit : IsFit program) (verified : IsVerified progra
         paused held n = Paused (record (box_of h pc s st a.held) { frames = frame_of h' pc' s' locals ∷ h'.below; path = q; held = keep held; entered = n }) (st.world.tree.fields h.at) why
 
         go : Bool → Bool → Move
-        go b d = if b then paused a.held (length st.world.entered) else (if d then paused (insert_key path_cmp a.held q) (suc (length st.world.entered)) else trapped trap.Reach at (box_of h pc s st a.held) (st.world.tree.fields h.at))
+        go b d = if b then paused a.held (length st.world.entered) else (if d then paused (insert_key path_cmp a.held q) (suc (length st.world.entered)) else trap_move trap.Reach at (box_of h pc s st a.held) (st.world.tree.fields h.at))
 
         is : (b d : Bool) → is_held a.held q ≡ b → nat_lt (length st.world.entered) CONTEXTS ≡ d → move_at program fit verified h pc s st a.held ins at ≡ go b d
         is b d eb ed = m ∙ (λ i. go (eb i) (ed i))
@@ -57,13 +57,13 @@ module _ (program : Program) (fit : IsFit program) (verified : IsVerified progra
         Wanted : Answer World → Type 0
         Wanted o = Follows program fit verified c (λ u st' d. At program fit verified h' pc' s' (record { locals = locals; world = record st'.world { held = keep st'.world.held } }) d) (λ u st'. (st'.locals ≡ st.locals) × (st'.world.ticks ≡ st.world.ticks)) (with_world o at st)
 
-        by : (b d : Bool) → is_held a.held q ≡ b → nat_lt (length st.world.entered) CONTEXTS ≡ d → has st.world.held q ≡ is_held a.held q → Wanted (if has st.world.held q then Ok (changed st.world) else (if nat_lt (length st.world.entered) CONTEXTS then Ok (changed (with_entered q st.world)) else Err trap.Reach))
+        by : (b d : Bool) → is_held a.held q ≡ b → nat_lt (length st.world.entered) CONTEXTS ≡ d → has st.world.held q ≡ is_held a.held q → Wanted (if has st.world.held q then Ok (after_change st.world) else (if nat_lt (length st.world.entered) CONTEXTS then Ok (after_change (with_entered q st.world)) else Err trap.Reach))
         by true d eb ed same =
-            subst (λ b. Wanted (if b then Ok (changed st.world) else (if nat_lt (length st.world.entered) CONTEXTS then Ok (changed (with_entered q st.world)) else Err trap.Reach))) (sym (same ∙ eb))
+            subst (λ b. Wanted (if b then Ok (after_change st.world) else (if nat_lt (length st.world.entered) CONTEXTS then Ok (after_change (with_entered q st.world)) else Err trap.Reach))) (sym (same ∙ eb))
             (record { is = (r.0, r.1, r.2, (refl, refl)) })
           where
             st' : State
-            st' = record { locals = locals; world = record (changed st.world) { held = keep st.world.held } }
+            st' = record { locals = locals; world = record (after_change st.world) { held = keep st.world.held } }
 
             r : (d : Tour) × Leads program fit verified c d × At program fit verified h' pc' s' st' d
             r =
@@ -73,11 +73,11 @@ module _ (program : Program) (fit : IsFit program) (verified : IsVerified progra
                 ∙ ap (into (tour_of h pc s st a.held) (record (box_of h pc s st a.held) { frames = frame_of h' pc' s' locals ∷ h'.below; path = q; held = keep a.held }) (st.world.tree.fields h.at)) eb
                 ∙ (λ i. record { box = record (box_of h' pc' s' st' (keep a.held)) { path = here i }; tree = put_same st.world.tree h.at i; entered = st.world.entered; segments = suc st.world.changes; result = None }))
         by false true eb ed same =
-            subst (λ b. Wanted (if b then Ok (changed st.world) else (if nat_lt (length st.world.entered) CONTEXTS then Ok (changed (with_entered q st.world)) else Err trap.Reach))) (sym (same ∙ eb))
-            (subst (λ d. Wanted (if d then Ok (changed (with_entered q st.world)) else Err trap.Reach)) (sym ed) (record { is = (r.0, r.1, r.2, (refl, refl)) }))
+            subst (λ b. Wanted (if b then Ok (after_change st.world) else (if nat_lt (length st.world.entered) CONTEXTS then Ok (after_change (with_entered q st.world)) else Err trap.Reach))) (sym (same ∙ eb))
+            (subst (λ d. Wanted (if d then Ok (after_change (with_entered q st.world)) else Err trap.Reach)) (sym ed) (record { is = (r.0, r.1, r.2, (refl, refl)) }))
           where
             st' : State
-            st' = record { locals = locals; world = record (changed (with_entered q st.world)) { held = keep (st.world.held ++ q ∷ []) } }
+            st' = record { locals = locals; world = record (after_change (with_entered q st.world)) { held = keep (st.world.held ++ q ∷ []) } }
 
             held' : List Path
             held' = insert_key path_cmp a.held q
@@ -93,8 +93,8 @@ module _ (program : Program) (fit : IsFit program) (verified : IsVerified progra
                 ∙ ap (into (tour_of h pc s st a.held) b' (st.world.tree.fields h.at)) eb
                 ∙ (λ i. record { box = record (box_of h' pc' s' st' (keep held')) { path = here i; entered = long_more st.world.entered i }; tree = enter (put_same st.world.tree h.at i) q; entered = st.world.entered ++ q ∷ []; segments = suc st.world.changes; result = None }))
         by false false eb ed same =
-            subst (λ b. Wanted (if b then Ok (changed st.world) else (if nat_lt (length st.world.entered) CONTEXTS then Ok (changed (with_entered q st.world)) else Err trap.Reach))) (sym (same ∙ eb))
-            (subst (λ d. Wanted (if d then Ok (changed (with_entered q st.world)) else Err trap.Reach)) (sym ed)
+            subst (λ b. Wanted (if b then Ok (after_change st.world) else (if nat_lt (length st.world.entered) CONTEXTS then Ok (after_change (with_entered q st.world)) else Err trap.Reach))) (sym (same ∙ eb))
+            (subst (λ d. Wanted (if d then Ok (after_change (with_entered q st.world)) else Err trap.Reach)) (sym ed)
             (record { is = traps program fit verified h pc s st c a ins at l trap.Reach (is false false eb ed) }))
 
   -- a call in a child
@@ -106,7 +106,7 @@ module _ (program : Program) (fit : IsFit program) (verified : IsVerified progra
       ins = i.CallDown (record { 0 = class }) g
 
       stop : Move
-      stop = trapped trap.Reach at (box_of h pc (pushed vs (k ∷ s)) st a.held) (st.world.tree.fields h.at)
+      stop = trap_move trap.Reach at (box_of h pc (pushed vs (k ∷ s)) st a.held) (st.world.tree.fields h.at)
 
       into_child : List Value → Function → ℤ → List Value → Move
       into_child vs callee key rest =
@@ -119,7 +119,7 @@ module _ (program : Program) (fit : IsFit program) (verified : IsVerified progra
 
       is : move_at program fit verified h pc (pushed vs (k ∷ s)) st a.held ins at ≡ on_int (k ∷ s) (into_child vs callee)
       is =
-          ap (λ o. with_some o (λ (callee : Function). with_some (taken (length callee.args) [] (pushed vs (k ∷ s))) (made callee))) there
+          ap (λ o. with_some o (λ (callee : Function). with_some (taken_values (length callee.args) [] (pushed vs (k ∷ s))) (made callee))) there
           ∙ ap (λ o. with_some o (made callee)) (take_pushed (length callee.args) vs (k ∷ s) long)
 
       Wanted : Value → Type 0
@@ -156,13 +156,13 @@ module _ (program : Program) (fit : IsFit program) (verified : IsVerified progra
       (ap (resumed (tour_of h pc s st a.held)) is ∙ (λ i. record { box = record (box_of g pc' (option_to_list result ++ s') st' a.held) { path = path i }; tree = put_same st.world.tree p i; entered = st.world.entered; segments = suc st.world.changes; result = None }))
     where
       st' : State
-      st' = record { locals = locals; world = changed st.world }
+      st' = record { locals = locals; world = after_change st.world }
 
       path : parent_of p ≡ g.at
       path = ap parent_of caller.1 ∙ parent_child g.at caller.0
 
       back : Option Value → Move
-      back r = Paused (record (box_of (callee_of m p true g pc' s' locals) pc s st a.held) { frames = returned (frame_of g pc' s' locals) r ∷ g.below; path = parent_of p }) (st.world.tree.fields p) pause.Back
+      back r = Paused (record (box_of (callee_of m p true g pc' s' locals) pc s st a.held) { frames = frame_with_result (frame_of g pc' s' locals) r ∷ g.below; path = parent_of p }) (st.world.tree.fields p) pause.Back
 
       is : move_at program fit verified (callee_of m p true g pc' s' locals) pc s st a.held i.Return at ≡ back result
       is = ap (λ o. with_some o (λ (own : Function). with_result own.result s back)) there ∙ gives back
@@ -175,7 +175,7 @@ module _ (program : Program) (fit : IsFit program) (verified : IsVerified progra
       st' = record { locals = locals; world = st.world }
 
       back : Option Value → Move
-      back r = Runs (record (box_of (callee_of m p false g pc' s' locals) pc s st a.held) { frames = returned (frame_of g pc' s' locals) r ∷ g.below }) (st.world.tree.fields p)
+      back r = Runs (record (box_of (callee_of m p false g pc' s' locals) pc s st a.held) { frames = frame_with_result (frame_of g pc' s' locals) r ∷ g.below }) (st.world.tree.fields p)
 
       is : move_at program fit verified (callee_of m p false g pc' s' locals) pc s st a.held i.Return at ≡ back result
       is = ap (λ o. with_some o (λ (own : Function). with_result own.result s back)) there ∙ gives back

@@ -8,7 +8,7 @@ use Rattle.wave_base.specs.declared.value.Value.{Value}
 use Rattle.wave_base.specs.declared.value.Value.TheVariants as v
 use Rattle.value_ops.specs.Operators.{operators, takes_of, apply_row}
 use Rattle.resolved_service.specs.declared.service.Method.{Method}
-use Rattle.resolved_service.specs.Meaning.{State, Leave, Returned, Finished, Done, Act, and_then, give, leave, maybe_value, answer, with_world, choose, get_local, set_local, get_field, put_field, demand, row_add, row_lt, row_put, row_cut, value, values, called, while_turns, for_test, for_body, effect, effects, ◌>>=◌, ◌>>◌}
+use Rattle.resolved_service.specs.Meaning.{State, Leave, Returned, Finished, Done, Act, and_then, give, leave, maybe_value, answer, with_world, choose, get_local, set_local, get_field, put_field, demand, row_add, row_lt, row_put, row_cut, value, values, call_act, while_turns, for_test, for_body, effect, effects, ◌>>=◌, ◌>>◌}
 use Rattle.resolved_service.specs.Steps.{Step, SetLocal, SetField, PutLocal, PutField, CutLocal, CutField, If, While, For, Require, Send, Spawn, Do, Return, Finish, Steps, no_steps, step, no_else, otherwise, surely_ends}
 use Rattle.resolved_service.specs.View.{Tree, Const, Local, Field, Above, Op, And, Or, Call, Child}
 use Rattle.resolved_service.specs.World as world
@@ -48,19 +48,19 @@ module _ (program : Program) (fit : IsFit program) (verified : IsVerified progra
     -- a value, and an instruction that takes it
     use_runs : (h : Here) (e : Tree) (kind : Kind) → HasKind program.shape methods limit locals class e kind → (t pc : ℕ) (at : Span) (ins : Instr) (s : List Value) (st : State) (c : Tour) → t ≤ n → st.world.ticks ≤ t → HasAt program fit verified h.fn pc (tree_code methods program.texts pc e ++ line ins at ∷ []) → At program fit verified h pc s st c → (f : Value → Act (Unit {0})) →
         ((pc' pc'' : ℕ) → suc pc' ≡ pc'' → IsLine program fit verified h.fn pc' ins at → (x : Value) (st' : State) (d : Tour) → st'.world.ticks ≤ t → At program fit verified h pc' (x ∷ s) st' d → Follows program fit verified d (Onward program fit verified h pc'' s) (Low t) (f x st')) →
-        Follows program fit verified c (Onward program fit verified h (pc + length (tree_code methods program.texts pc e ++ line ins at ∷ [])) s) (Low t) (and_then (value (called methods n) h.at e st) f)
+        Follows program fit verified c (Onward program fit verified h (pc + length (tree_code methods program.texts pc e ++ line ins at ∷ [])) s) (Low t) (and_then (value (call_act methods n) h.at e st) f)
     use_runs h e kind typed t pc at ins s st c le q has a f r =
         let ce = tree_code methods program.texts pc e in
         let end = pc + length (ce ++ line ins at ∷ []) in
         let len : suc (pc + length ce) ≡ end = omega (arith, length-append ce (line ins at ∷ [])) in
-        bind program fit verified c (OnTop program fit verified methods h (pc + length ce) s) (Low t) (Onward program fit verified h end s) (Low t) (value (called methods n) h.at e st) f
+        bind program fit verified c (OnTop program fit verified methods h (pc + length ce) s) (Low t) (Onward program fit verified h end s) (Low t) (value (call_act methods n) h.at e st) f
         (value_runs program fit verified methods made n calls limit locals class h e kind typed t pc s st c le q (has_front program fit verified h.fn pc ce _ has) a)
         (λ x st1 d a1 q1. r (pc + length ce) end len (has_back program fit verified h.fn pc ce _ has).0 x st1 d q1 a1)
 
     -- two values, and an instruction that takes them
     two_runs : (h : Here) (e e' : Tree) (kind kind' : Kind) → HasKind program.shape methods limit locals class e kind → HasKind program.shape methods limit locals class e' kind' → (t pc : ℕ) (at : Span) (ins : Instr) (s : List Value) (st : State) (c : Tour) → t ≤ n → st.world.ticks ≤ t → HasAt program fit verified h.fn pc (two_code methods program.texts pc e e' (line ins at)) → At program fit verified h pc s st c → (f : Value → Value → Act (Unit {0})) →
         ((pc' pc'' : ℕ) → suc pc' ≡ pc'' → IsLine program fit verified h.fn pc' ins at → (x y : Value) (st' : State) (d : Tour) → st'.world.ticks ≤ t → At program fit verified h pc' (y ∷ x ∷ s) st' d → Follows program fit verified d (Onward program fit verified h pc'' s) (Low t) (f x y st')) →
-        Follows program fit verified c (Onward program fit verified h (pc + length (two_code methods program.texts pc e e' (line ins at))) s) (Low t) (and_then (value (called methods n) h.at e st) (λ x. value (called methods n) h.at e' >>= f x))
+        Follows program fit verified c (Onward program fit verified h (pc + length (two_code methods program.texts pc e e' (line ins at))) s) (Low t) (and_then (value (call_act methods n) h.at e st) (λ x. value (call_act methods n) h.at e' >>= f x))
     two_runs h e e' kind kind' typed typed' t pc at ins s st c le q has a f r =
         let ce = tree_code methods program.texts pc e in
         let pe = pc + length ce in
@@ -68,9 +68,9 @@ module _ (program : Program) (fit : IsFit program) (verified : IsVerified progra
         let end = pc + length (ce ++ (ce' ++ line ins at ∷ [])) in
         let len : suc (pe + length ce') ≡ end = omega (arith, length-append ce (ce' ++ line ins at ∷ []), length-append ce' (line ins at ∷ [])) in
         let hb = has_back program fit verified h.fn pc ce _ has in
-        bind program fit verified c (OnTop program fit verified methods h pe s) (Low t) (Onward program fit verified h end s) (Low t) (value (called methods n) h.at e st) (λ x. value (called methods n) h.at e' >>= f x)
+        bind program fit verified c (OnTop program fit verified methods h pe s) (Low t) (Onward program fit verified h end s) (Low t) (value (call_act methods n) h.at e st) (λ x. value (call_act methods n) h.at e' >>= f x)
         (value_runs program fit verified methods made n calls limit locals class h e kind typed t pc s st c le q (has_front program fit verified h.fn pc ce _ has) a)
-        (λ x st1 d a1 q1. bind program fit verified d (OnTop program fit verified methods h (pe + length ce') (x ∷ s)) (Low t) (Onward program fit verified h end s) (Low t) (value (called methods n) h.at e' st1) (f x)
+        (λ x st1 d a1 q1. bind program fit verified d (OnTop program fit verified methods h (pe + length ce') (x ∷ s)) (Low t) (Onward program fit verified h end s) (Low t) (value (call_act methods n) h.at e' st1) (f x)
         (value_runs program fit verified methods made n calls limit locals class h e' kind' typed' t pe (x ∷ s) st1 d le q1 (has_front program fit verified h.fn pe ce' _ hb) a1)
         (λ y st2 d2 a2 q2. r (pe + length ce') end len (has_back program fit verified h.fn pe ce' _ hb).0 x y st2 d2 q2 a2))
 
@@ -86,21 +86,21 @@ module _ (program : Program) (fit : IsFit program) (verified : IsVerified progra
       Leaves h t s = Leaving program fit verified w h t s
 
       if_runs : (h : Here) (pc : ℕ) (at : Span) (s : List Value) (e : Tree) (ca : List Line) (fa : Act (Unit {0})) → HasKind program.shape methods limit locals class e k.Bool → Effect program fit verified methods n w h ca (pc + length (tree_code methods program.texts pc e) + 1) s fa →
-          Effect program fit verified methods n w h (if_code pc at (tree_code methods program.texts pc e) ca) pc s (λ st. and_then (value (called methods n) h.at e st) (λ v. choose (is_true v) fa (give tt)))
+          Effect program fit verified methods n w h (if_code pc at (tree_code methods program.texts pc e) ca) pc s (λ st. and_then (value (call_act methods n) h.at e st) (λ v. choose (is_true v) fa (give tt)))
       if_runs h pc at s e ca fa typed ra t st c le q has a =
           let ct = tree_code methods program.texts pc e in
           let x = pc + length ct + 1 + length ca in
           let end = pc + length (if_code pc at ct ca) in
           let l = has_back program fit verified h.fn pc ct _ has in
           let len : x ≡ end = omega (arith, length-append ct (line (i.JumpFalse x) at ∷ ca)) in
-          bind_to program fit verified c (OnTop program fit verified methods h (pc + length ct) s) (Low t) (Onward program fit verified h end s) (Low t) (Leaves h t s) (value (called methods n) h.at e st) (λ v. choose (is_true v) fa (give tt))
+          bind_to program fit verified c (OnTop program fit verified methods h (pc + length ct) s) (Low t) (Onward program fit verified h end s) (Low t) (Leaves h t s) (value (call_act methods n) h.at e st) (λ v. choose (is_true v) fa (give tt))
           (value_runs program fit verified methods made n calls limit locals class h e k.Bool typed t pc s st c le q (has_front program fit verified h.fn pc ct _ has) a)
           (λ v st1 d a1 q1. picks_on program fit verified h (pc + length ct) x v s st1 d a1 at l.0 (Onward program fit verified h end s) (Low t) (Leaves h t s) fa (give tt)
           (λ d2 a2. ended program fit verified methods n w h x end t s d2 (fa st1) len (ra t st1 d2 le q1 l.1 a2))
           (λ d2 a2. performs program fit verified d2 (Onward program fit verified h end s) (Low t) (Leaves h t s) (Done tt st1) (done program fit verified d2 (Onward program fit verified h end s) (Low t) tt st1 (place_is program fit verified h x end s st1 d2 len a2) q1)))
 
       else_runs : (h : Here) (pc : ℕ) (at : Span) (s : List Value) (e : Tree) (b : Bool) (ca cb : List Line) (fa fb : Act (Unit {0})) → HasKind program.shape methods limit locals class e k.Bool → (b ≡ true → (st : State) → NeverDone (fa st)) → Effect program fit verified methods n w h ca (pc + length (tree_code methods program.texts pc e) + 1) s fa → Effect program fit verified methods n w h cb (behind b (pc + length (tree_code methods program.texts pc e) + 1 + length ca)) s fb →
-          Effect program fit verified methods n w h (else_code pc at (tree_code methods program.texts pc e) b ca cb) pc s (λ st. and_then (value (called methods n) h.at e st) (λ v. choose (is_true v) fa fb))
+          Effect program fit verified methods n w h (else_code pc at (tree_code methods program.texts pc e) b ca cb) pc s (λ st. and_then (value (call_act methods n) h.at e st) (λ v. choose (is_true v) fa fb))
       else_runs h pc at s e true ca cb fa fb typed never ra rb t st c le q has a =
           let ct = tree_code methods program.texts pc e in
           let f = pc + length ct + 1 + length ca in
@@ -109,7 +109,7 @@ module _ (program : Program) (fit : IsFit program) (verified : IsVerified progra
           let l = has_back program fit verified h.fn pc ct _ has in
           let l1 = has_back program fit verified h.fn (pc + length ct + 1) ca cb l.1 in
           let len : x ≡ end = omega (arith, length-append ct (line (i.JumpFalse f) at ∷ (ca ++ cb)), length-append ca cb) in
-          bind_to program fit verified c (OnTop program fit verified methods h (pc + length ct) s) (Low t) (Onward program fit verified h end s) (Low t) (Leaves h t s) (value (called methods n) h.at e st) (λ v. choose (is_true v) fa fb)
+          bind_to program fit verified c (OnTop program fit verified methods h (pc + length ct) s) (Low t) (Onward program fit verified h end s) (Low t) (Leaves h t s) (value (call_act methods n) h.at e st) (λ v. choose (is_true v) fa fb)
           (value_runs program fit verified methods made n calls limit locals class h e k.Bool typed t pc s st c le q (has_front program fit verified h.fn pc ct _ has) a)
           (λ v st1 d a1 q1. picks_on program fit verified h (pc + length ct) f v s st1 d a1 at l.0 (Onward program fit verified h end s) (Low t) (Leaves h t s) fa fb
           (λ d2 a2. never_ends program fit verified d2 (Onward program fit verified h f s) (Low t) (Leaves h t s) (Onward program fit verified h end s) (Low t) (fa st1) (never refl st1) (ra t st1 d2 le q1 (has_front program fit verified h.fn _ ca cb l.1) a2))
@@ -122,7 +122,7 @@ module _ (program : Program) (fit : IsFit program) (verified : IsVerified progra
           let l = has_back program fit verified h.fn pc ct _ has in
           let l1 = has_back program fit verified h.fn (pc + length ct + 1) ca _ l.1 in
           let len : x ≡ end = omega (arith, length-append ct (line (i.JumpFalse f) at ∷ (ca ++ line (i.Jump x) at ∷ cb)), length-append ca (line (i.Jump x) at ∷ cb)) in
-          bind_to program fit verified c (OnTop program fit verified methods h (pc + length ct) s) (Low t) (Onward program fit verified h end s) (Low t) (Leaves h t s) (value (called methods n) h.at e st) (λ v. choose (is_true v) fa fb)
+          bind_to program fit verified c (OnTop program fit verified methods h (pc + length ct) s) (Low t) (Onward program fit verified h end s) (Low t) (Leaves h t s) (value (call_act methods n) h.at e st) (λ v. choose (is_true v) fa fb)
           (value_runs program fit verified methods made n calls limit locals class h e k.Bool typed t pc s st c le q (has_front program fit verified h.fn pc ct _ has) a)
           (λ v st1 d a1 q1. picks_on program fit verified h (pc + length ct) f v s st1 d a1 at l.0 (Onward program fit verified h end s) (Low t) (Leaves h t s) fa fb
           (λ d2 a2. then_jump program fit verified methods n w h (pc + length ct + 1 + length ca) x t s at l1.0 end len d2 (fa st1) (ra t st1 d2 le q1 (has_front program fit verified h.fn _ ca _ l.1) a2))
@@ -172,13 +172,13 @@ module _ (program : Program) (fit : IsFit program) (verified : IsVerified progra
       for_runs : (h : Here) (pc : ℕ) (at : Span) (counter : ℕ) (s : List Value) (from to : Tree) (b : Bool) (cb : List Line) (fb : Act (Unit {0})) → HasKind program.shape methods limit locals class from k.Int → HasKind program.shape methods limit locals class to k.Int → (b ≡ true → (st : State) → NeverDone (fb st)) →
           Effect program fit verified methods n w h cb (block_at (loop_at pc (length (tree_code methods program.texts pc from)) (length (tree_code methods program.texts (pc + length (tree_code methods program.texts pc from) + 1) to)))) s fb →
           Effect program fit verified methods n w h (tree_code methods program.texts pc from ++ line (i.Store counter) at ∷ (tree_code methods program.texts (pc + length (tree_code methods program.texts pc from) + 1) to ++ line (i.Store (counter + 1)) at ∷ while_code (loop_at pc (length (tree_code methods program.texts pc from)) (length (tree_code methods program.texts (pc + length (tree_code methods program.texts pc from) + 1) to))) at (test_code counter at) b (turn_code counter at b cb))) pc s
-          (value (called methods n) h.at from >>= (λ a. set_local counter a >> (value (called methods n) h.at to >>= (λ b. set_local (counter + 1) b >> while_turns n (for_test counter at) (for_body counter at fb) at))))
+          (value (call_act methods n) h.at from >>= (λ a. set_local counter a >> (value (call_act methods n) h.at to >>= (λ b. set_local (counter + 1) b >> while_turns n (for_test counter at) (for_body counter at fb) at))))
       for_runs h pc at counter s from to b cb fb typed_from typed_to never rb t st c le q has a =
-          bind_to program fit verified c (OnTop program fit verified methods h (pc + length cf) s) (Low t) After (Low t) (Leaves h t s) (value (called methods n) h.at from st) (λ a. set_local counter a >> (value (called methods n) h.at to >>= (λ b. set_local (counter + 1) b >> while_turns n test body at)))
+          bind_to program fit verified c (OnTop program fit verified methods h (pc + length cf) s) (Low t) After (Low t) (Leaves h t s) (value (call_act methods n) h.at from st) (λ a. set_local counter a >> (value (call_act methods n) h.at to >>= (λ b. set_local (counter + 1) b >> while_turns n test body at)))
           (value_runs program fit verified methods made n calls limit locals class h from k.Int typed_from t pc s st c le q (has_front program fit verified h.fn pc cf _ has) a)
-          (λ x st1 d1 a1 q1. bind_to program fit verified d1 (Onward program fit verified h p1 s) (Low t) After (Low t) (Leaves h t s) (set_local counter x st1) (λ u. value (called methods n) h.at to >>= (λ b. set_local (counter + 1) b >> while_turns n test body at))
+          (λ x st1 d1 a1 q1. bind_to program fit verified d1 (Onward program fit verified h p1 s) (Low t) After (Low t) (Leaves h t s) (set_local counter x st1) (λ u. value (call_act methods n) h.at to >>= (λ b. set_local (counter + 1) b >> while_turns n test body at))
           (stored h (pc + length cf) p1 t counter s at (next (pc + length cf)) l0.0 x st1 d1 q1 a1)
-          (λ u st2 d2 a2 q2. bind_to program fit verified d2 (OnTop program fit verified methods h (p1 + length ct) s) (Low t) After (Low t) (Leaves h t s) (value (called methods n) h.at to st2) (λ b. set_local (counter + 1) b >> while_turns n test body at)
+          (λ u st2 d2 a2 q2. bind_to program fit verified d2 (OnTop program fit verified methods h (p1 + length ct) s) (Low t) After (Low t) (Leaves h t s) (value (call_act methods n) h.at to st2) (λ b. set_local (counter + 1) b >> while_turns n test body at)
           (value_runs program fit verified methods made n calls limit locals class h to k.Int typed_to t p1 s st2 d2 le q2 (has_front program fit verified h.fn p1 ct _ l0.1) a2)
           (λ y st3 d3 a3 q3. bind_to program fit verified d3 (Onward program fit verified h m s) (Low t) After (Low t) (Leaves h t s) (set_local (counter + 1) y st3) (λ u. while_turns n test body at)
           (stored h (p1 + length ct) m t (counter + 1) s at (next (p1 + length ct)) l1.0 y st3 d3 q3 a3)
@@ -248,18 +248,18 @@ module _ (program : Program) (fit : IsFit program) (verified : IsVerified progra
 
     -- a call as a statement
     do_runs : (h : Here) (pc : ℕ) (at : Span) (s : List Value) (e : Tree) → ((kind : Kind) × HasKind program.shape methods limit locals class e kind) ⊎ IsSilent program.shape methods limit locals class e →
-        Plain program fit verified methods n h (tree_code methods program.texts pc e ++ pop_code (leaves_value methods e) at) pc s (value (called methods n) h.at e >> give tt)
+        Plain program fit verified methods n h (tree_code methods program.texts pc e ++ pop_code (leaves_value methods e) at) pc s (value (call_act methods n) h.at e >> give tt)
     do_runs h pc at s e (inl (kind, typed)) t st c le q has a =
         let ce = tree_code methods program.texts pc e in
-        subst (λ b. Follows program fit verified c (Onward program fit verified h (pc + length (ce ++ pop_code b at)) s) (Low t) ((value (called methods n) h.at e >> give tt) st)) (sym (leaves_true e kind typed))
+        subst (λ b. Follows program fit verified c (Onward program fit verified h (pc + length (ce ++ pop_code b at)) s) (Low t) ((value (call_act methods n) h.at e >> give tt) st)) (sym (leaves_true e kind typed))
         (use_runs h e kind typed t pc at i.Pop s st c le q (subst (λ b. HasAt program fit verified h.fn pc (ce ++ pop_code b at)) (leaves_true e kind typed) has) a (λ x. give tt)
         (λ pc' pc'' e' l x st' d q' a'. let r = pop_runs program fit verified h pc' pc'' x s st' d a' at e' l in record { is = (r.0, r.1, r.2, q') }))
     do_runs h pc at s (Call at' m args) (inr silent) t st c le q has a =
         let ca = trees_code methods program.texts pc args in
         let code = ca ++ line i.Tick at' ∷ line (i.Call m) at' ∷ [] in
-        subst (λ b. Follows program fit verified c (Onward program fit verified h (pc + length (code ++ pop_code b at)) s) (Low t) ((value (called methods n) h.at (Call at' m args) >> give tt) st)) (sym (gives_same methods silent.1.0))
-        (bind program fit verified c (LeftOn program fit verified methods h (pc + length code) s None) (Low t) (Onward program fit verified h (pc + length (code ++ [])) s) (Low t) (value (called methods n) h.at (Call at' m args) st) (λ x. give tt)
-        (own_value program fit verified methods made n calls h pc t class m None at' s c ca (values (called methods n) h.at args st) le silent.1.0 (has_front program fit verified h.fn pc code _ has)
+        subst (λ b. Follows program fit verified c (Onward program fit verified h (pc + length (code ++ pop_code b at)) s) (Low t) ((value (call_act methods n) h.at (Call at' m args) >> give tt) st)) (sym (gives_same methods silent.1.0))
+        (bind program fit verified c (LeftOn program fit verified methods h (pc + length code) s None) (Low t) (Onward program fit verified h (pc + length (code ++ [])) s) (Low t) (value (call_act methods n) h.at (Call at' m args) st) (λ x. give tt)
+        (own_value program fit verified methods made n calls h pc t class m None at' s c ca (values (call_act methods n) h.at args st) le silent.1.0 (has_front program fit verified h.fn pc code _ has)
         (values_run program fit verified methods made n calls limit locals class h args silent.1.0.method.params silent.1.1 t pc s st c le q (has_front program fit verified h.fn pc ca _ (has_front program fit verified h.fn pc code _ has)) a))
         (λ x st1 d a1 q1. done program fit verified d (Onward program fit verified h (pc + length (code ++ [])) s) (Low t) tt st1 (place_is program fit verified h (pc + length code) _ s st1 d (omega (arith, length-append code [])) a1) q1))
     do_runs h pc at s (Child at' cls m key args) (inr silent) t st c le q has a =
@@ -267,9 +267,9 @@ module _ (program : Program) (fit : IsFit program) (verified : IsVerified progra
         let ca = trees_code methods program.texts (pc + length ck) args in
         let code = ck ++ (ca ++ line i.Tick at' ∷ line (i.CallDown (record { 0 = cls }) m) at' ∷ []) in
         let hc = has_front program fit verified h.fn pc code _ has in
-        subst (λ b. Follows program fit verified c (Onward program fit verified h (pc + length (code ++ pop_code b at)) s) (Low t) ((value (called methods n) h.at (Child at' cls m key args) >> give tt) st)) (sym (gives_same methods silent.2.0))
-        (bind program fit verified c (LeftOn program fit verified methods h (pc + length code) s None) (Low t) (Onward program fit verified h (pc + length (code ++ [])) s) (Low t) (value (called methods n) h.at (Child at' cls m key args) st) (λ x. give tt)
-        (child_value program fit verified methods made n calls h pc t cls m None at' s c ck ca (value (called methods n) h.at key st) (values (called methods n) h.at args) le silent.2.0 hc
+        subst (λ b. Follows program fit verified c (Onward program fit verified h (pc + length (code ++ pop_code b at)) s) (Low t) ((value (call_act methods n) h.at (Child at' cls m key args) >> give tt) st)) (sym (gives_same methods silent.2.0))
+        (bind program fit verified c (LeftOn program fit verified methods h (pc + length code) s None) (Low t) (Onward program fit verified h (pc + length (code ++ [])) s) (Low t) (value (call_act methods n) h.at (Child at' cls m key args) st) (λ x. give tt)
+        (child_value program fit verified methods made n calls h pc t cls m None at' s c ck ca (value (call_act methods n) h.at key st) (values (call_act methods n) h.at args) le silent.2.0 hc
         (value_runs program fit verified methods made n calls limit locals class h key k.Int silent.1 t pc s st c le q (has_front program fit verified h.fn pc ck _ hc) a)
         (λ x st1 d q1 a1. values_run program fit verified methods made n calls limit locals class h args silent.2.0.method.params silent.2.1 t (pc + length ck) (x ∷ s) st1 d le q1 (has_front program fit verified h.fn (pc + length ck) ca _ (has_back program fit verified h.fn pc ck _ hc)) a1))
         (λ x st1 d a1 q1. done program fit verified d (Onward program fit verified h (pc + length (code ++ [])) s) (Low t) tt st1 (place_is program fit verified h (pc + length code) _ s st1 d (omega (arith, length-append code [])) a1) q1))
@@ -286,16 +286,16 @@ module _ (program : Program) (fit : IsFit program) (verified : IsVerified progra
       -- the value that a return or a finish gives, and then what it does
       given_runs : (e : Tree) (kind : Kind) → HasKind program.shape methods limit locals class e kind → (ins : Instr) (why : Option Value → Leave) (t : ℕ) (st : State) (c : Tour) → t ≤ n → st.world.ticks ≤ t → HasAt program fit verified h.fn pc (tree_code methods program.texts pc e ++ line ins at ∷ []) → At program fit verified h pc s st c →
           ((pc' : ℕ) (x : Value) (st1 : State) (d : Tour) → IsLine program fit verified h.fn pc' ins at → At program fit verified h pc' (x ∷ s) st1 d → st1.world.ticks ≤ t → (d' : Tour) × Leads program fit verified d d' × Leaving program fit verified w h t s (why (Some x)) st1 d') →
-          Performs program fit verified c (Onward program fit verified h (pc + length (tree_code methods program.texts pc e ++ line ins at ∷ [])) s) (Low t) (Leaving program fit verified w h t s) ((maybe_value (called methods n) n h.at (Some e) >>= leave why) st)
+          Performs program fit verified c (Onward program fit verified h (pc + length (tree_code methods program.texts pc e ++ line ins at ∷ [])) s) (Low t) (Leaving program fit verified w h t s) ((maybe_value (call_act methods n) n h.at (Some e) >>= leave why) st)
       given_runs e kind typed ins why t st c le q has a f =
           let ce = tree_code methods program.texts pc e in
           let end = Onward program fit verified h (pc + length (ce ++ line ins at ∷ [])) s in
-          subst (λ o. Performs program fit verified c end (Low t) (Leaving program fit verified w h t s) o) (sym (assoc (value (called methods n) h.at e st) (λ x. give (Some x)) (leave why)))
-          (bind_to program fit verified c (OnTop program fit verified methods h (pc + length ce) s) (Low t) end (Low t) (Leaving program fit verified w h t s) (value (called methods n) h.at e st) (λ x. leave why (Some x))
+          subst (λ o. Performs program fit verified c end (Low t) (Leaving program fit verified w h t s) o) (sym (assoc (value (call_act methods n) h.at e st) (λ x. give (Some x)) (leave why)))
+          (bind_to program fit verified c (OnTop program fit verified methods h (pc + length ce) s) (Low t) end (Low t) (Leaving program fit verified w h t s) (value (call_act methods n) h.at e st) (λ x. leave why (Some x))
           (value_runs program fit verified methods made n calls limit locals class h e kind typed t pc s st c le q (has_front program fit verified h.fn pc ce _ has) a)
           (λ x st1 d a1 q1. record { is = f (pc + length ce) x st1 d (has_back program fit verified h.fn pc ce _ has).0 a1 q1 }))
 
-    return_runs : (w : Within) (h : Here) (pc : ℕ) (at : Span) (s : List Value) (e : Option Tree) → IsTypedReturn program.shape methods limit locals class w e → Effect program fit verified methods n w h (maybe_code methods program.texts pc e ++ line i.Return at ∷ []) pc s (maybe_value (called methods n) n h.at e >>= leave Returned)
+    return_runs : (w : Within) (h : Here) (pc : ℕ) (at : Span) (s : List Value) (e : Option Tree) → IsTypedReturn program.shape methods limit locals class w e → Effect program fit verified methods n w h (maybe_code methods program.texts pc e ++ line i.Return at ∷ []) pc s (maybe_value (call_act methods n) n h.at e >>= leave Returned)
     return_runs (InMethod None) h pc at s None typed t st c le q has a = record { is = (c, stay program fit verified c, (record { pc = pc; place = at; is_line = has.0; is_at = a }, (q, tt))) }
     return_runs (InMethod None) h pc at s (Some e) typed t st c le q has a = absurd typed
     return_runs (InMethod (Some kind)) h pc at s None typed t st c le q has a = absurd typed
@@ -304,7 +304,7 @@ module _ (program : Program) (fit : IsFit program) (verified : IsVerified progra
         (λ pc' x st1 d l a1 q1. (d, stay program fit verified d, (record { pc = pc'; place = at; is_line = l; is_at = a1 }, (q1, tt))))
     return_runs (InEvent reply) h pc at s e typed t st c le q has a = absurd typed
 
-    finish_runs : (w : Within) (h : Here) (pc : ℕ) (at : Span) (s : List Value) (e : Option Tree) → IsTypedFinish program.shape methods limit locals class w e → Effect program fit verified methods n w h (maybe_code methods program.texts pc e ++ line (finish_instr e) at ∷ []) pc s (maybe_value (called methods n) n h.at e >>= leave Finished)
+    finish_runs : (w : Within) (h : Here) (pc : ℕ) (at : Span) (s : List Value) (e : Option Tree) → IsTypedFinish program.shape methods limit locals class w e → Effect program fit verified methods n w h (maybe_code methods program.texts pc e ++ line (finish_instr e) at ∷ []) pc s (maybe_value (call_act methods n) n h.at e >>= leave Finished)
     finish_runs (InMethod result) h pc at s e typed t st c le q has a = absurd typed
     finish_runs (InEvent None) h pc at s None typed t st c le q has a = record { is = end_runs program fit verified h pc s st c a at has.0 }
     finish_runs (InEvent None) h pc at s (Some e) typed t st c le q has a = absurd typed
@@ -313,11 +313,11 @@ module _ (program : Program) (fit : IsFit program) (verified : IsVerified progra
         given_runs (InEvent (Some kind)) h pc at s e kind typed i.Reply Finished t st c le q has a (λ pc' x st1 d l a1 q1. reply_runs program fit verified h pc' x s st1 d a1 at l)
 
     module _ (w : Within) where
-      plainly : (h : Here) (pc t : ℕ) (s : List Value) (c : Tour) (x : Step) (st : State) → Follows program fit verified c (Onward program fit verified h (pc + length (step_code methods program.texts pc x)) s) (Low t) (effect (called methods n) n h.at x st) → Performs program fit verified c (Onward program fit verified h (pc + length (step_code methods program.texts pc x)) s) (Low t) (Leaving program fit verified w h t s) (effect (called methods n) n h.at x st)
-      plainly h pc t s c x st f = performs program fit verified c (Onward program fit verified h (pc + length (step_code methods program.texts pc x)) s) (Low t) (Leaving program fit verified w h t s) (effect (called methods n) n h.at x st) f
+      plainly : (h : Here) (pc t : ℕ) (s : List Value) (c : Tour) (x : Step) (st : State) → Follows program fit verified c (Onward program fit verified h (pc + length (step_code methods program.texts pc x)) s) (Low t) (effect (call_act methods n) n h.at x st) → Performs program fit verified c (Onward program fit verified h (pc + length (step_code methods program.texts pc x)) s) (Low t) (Leaving program fit verified w h t s) (effect (call_act methods n) n h.at x st)
+      plainly h pc t s c x st f = performs program fit verified c (Onward program fit verified h (pc + length (step_code methods program.texts pc x)) s) (Low t) (Leaving program fit verified w h t s) (effect (call_act methods n) n h.at x st) f
 
       mutual
-        pub effect_runs : (h : Here) (s : List Value) (x : Step) → IsTypedStep program.shape methods limit locals class w x → (pc : ℕ) → Effect program fit verified methods n w h (step_code methods program.texts pc x) pc s (effect (called methods n) n h.at x)
+        pub effect_runs : (h : Here) (s : List Value) (x : Step) → IsTypedStep program.shape methods limit locals class w x → (pc : ℕ) → Effect program fit verified methods n w h (step_code methods program.texts pc x) pc s (effect (call_act methods n) n h.at x)
         effect_runs h s (SetLocal at x e) typed pc t st c le q has a =
             plainly h pc t s c (SetLocal at x e) st (
             use_runs h e typed.0 typed.2 t pc at (i.Store x) s st c le q has a (set_local x) (λ pc' pc'' e' l y st' d q' a'. stored h pc' pc'' t x s at e' l y st' d q' a'))
@@ -342,24 +342,24 @@ module _ (program : Program) (fit : IsFit program) (verified : IsVerified progra
             (λ pc' pc'' e' l x' st' d q' a'. cut_field_runs program fit verified h pc' pc'' t x x' s st' d a' at e' l q'))
         effect_runs h s (If at test body no_else) typed pc t st c le q has a =
             let pa = pc + length (tree_code methods program.texts pc test) + 1 in
-            if_runs w h pc at s test (steps_code methods program.texts pa body) (effects (called methods n) n h.at body) typed.0 (effects_run h s body typed.1 pa) t st c le q has a
+            if_runs w h pc at s test (steps_code methods program.texts pa body) (effects (call_act methods n) n h.at body) typed.0 (effects_run h s body typed.1 pa) t st c le q has a
         effect_runs h s (If at test body (otherwise ss)) typed pc t st c le q has a =
             let pa = pc + length (tree_code methods program.texts pc test) + 1 in
             let ca = steps_code methods program.texts pa body in
             let b = surely_ends body in
             let pb = behind b (pa + length ca) in
-            else_runs w h pc at s test b ca (steps_code methods program.texts pb ss) (effects (called methods n) n h.at body) (effects (called methods n) n h.at ss) typed.0 (never_effects (called methods n) n h.at body) (effects_run h s body typed.1 pa) (effects_run h s ss typed.2 pb) t st c le q has a
+            else_runs w h pc at s test b ca (steps_code methods program.texts pb ss) (effects (call_act methods n) n h.at body) (effects (call_act methods n) n h.at ss) typed.0 (never_effects (call_act methods n) n h.at body) (effects_run h s body typed.1 pa) (effects_run h s ss typed.2 pb) t st c le q has a
         effect_runs h s (While at test body) typed pc t st c le q has a =
             let ct = tree_code methods program.texts pc test in
             let ca = steps_code methods program.texts (pc + length ct + 1 + 1) body in
             let l = while_stands program fit verified h.fn pc at ct (surely_ends body) ca has in
-            while_runs program fit verified methods n w h pc at s ct (surely_ends body) ca (value (called methods n) h.at test) (effects (called methods n) n h.at body) has (never_effects (called methods n) n h.at body)
+            while_runs program fit verified methods n w h pc at s ct (surely_ends body) ca (value (call_act methods n) h.at test) (effects (call_act methods n) n h.at body) has (never_effects (call_act methods n) n h.at body)
             (λ t' le' st' c' q' a'. value_runs program fit verified methods made n calls limit locals class h test k.Bool typed.0 t' pc s st' c' le' q' l.0 a')
             (λ t' le' st' c' q' a'. effects_run h s body typed.1 (pc + length ct + 1 + 1) t' st' c' le' q' l.1 a')
             n t le le st c q a
         effect_runs h s (For at counter from to body) typed pc t st c le q has a =
             let pb = block_at (loop_at pc (length (tree_code methods program.texts pc from)) (length (tree_code methods program.texts (pc + length (tree_code methods program.texts pc from) + 1) to))) in
-            for_runs w h pc at counter s from to (surely_ends body) (steps_code methods program.texts pb body) (effects (called methods n) n h.at body) typed.3 typed.4 (never_effects (called methods n) n h.at body) (effects_run h s body typed.5 pb) t st c le q has a
+            for_runs w h pc at counter s from to (surely_ends body) (steps_code methods program.texts pb body) (effects (call_act methods n) n h.at body) typed.3 typed.4 (never_effects (call_act methods n) n h.at body) (effects_run h s body typed.5 pb) t st c le q has a
         effect_runs h s (Require at e) typed pc t st c le q has a =
             plainly h pc t s c (Require at e) st (
             use_runs h e k.Bool typed t pc at i.Require s st c le q has a (λ y. demand (is_true y) at)
@@ -373,7 +373,7 @@ module _ (program : Program) (fit : IsFit program) (verified : IsVerified progra
             let ca = trees_code methods program.texts pc args in
             let end = pc + length (ca ++ line (i.Spawn event) at ∷ []) in
             let len : suc (pc + length ca) ≡ end = omega (arith, length-append ca (line (i.Spawn event) at ∷ [])) in
-            bind program fit verified c (OnTops program fit verified methods h (pc + length ca) s) (Counted t typed.0.params) (Onward program fit verified h end s) (Low t) (values (called methods n) h.at args st) (λ given st. with_world (spawning event given st.world) at st)
+            bind program fit verified c (OnTops program fit verified methods h (pc + length ca) s) (Counted t typed.0.params) (Onward program fit verified h end s) (Low t) (values (call_act methods n) h.at args st) (λ given st. with_world (spawning event given st.world) at st)
             (values_run program fit verified methods made n calls limit locals class h args typed.0.params typed.2 t pc s st c le q (has_front program fit verified h.fn pc ca _ has) a)
             (λ given st1 d a1 k1. spawn_runs program fit verified h (pc + length ca) end t event typed.0 given s st1 d typed.1 (sym k1.1) a1 at len (has_back program fit verified h.fn pc ca _ has).0 k1.0))
         effect_runs h s (Do at e) typed pc t st c le q has a =
@@ -382,8 +382,8 @@ module _ (program : Program) (fit : IsFit program) (verified : IsVerified progra
         effect_runs h s (Return at e) typed pc t st c le q has a = return_runs w h pc at s e typed t st c le q has a
         effect_runs h s (Finish at e) typed pc t st c le q has a = finish_runs w h pc at s e typed t st c le q has a
 
-        pub effects_run : (h : Here) (s : List Value) (ss : Steps) → AreTyped program.shape methods limit locals class w ss → (pc : ℕ) → Effect program fit verified methods n w h (steps_code methods program.texts pc ss) pc s (effects (called methods n) n h.at ss)
+        pub effects_run : (h : Here) (s : List Value) (ss : Steps) → AreTyped program.shape methods limit locals class w ss → (pc : ℕ) → Effect program fit verified methods n w h (steps_code methods program.texts pc ss) pc s (effects (call_act methods n) n h.at ss)
         effects_run h s no_steps typed pc t st c le q has a = let e : pc ≡ pc + 0 = omega arith in performs program fit verified c (Onward program fit verified h (pc + 0) s) (Low t) (Leaving program fit verified w h t s) (Done tt st) (done program fit verified c (Onward program fit verified h (pc + 0) s) (Low t) tt st (place_is program fit verified h pc (pc + 0) s st c e a) q)
         effects_run h s (step x ss) typed pc t st c le q has a =
             let cx = step_code methods program.texts pc x in
-            then_runs w h pc s cx (steps_code methods program.texts (pc + length cx) ss) (effect (called methods n) n h.at x) (effects (called methods n) n h.at ss) (effect_runs h s x typed.0 pc) (effects_run h s ss typed.1 (pc + length cx)) t st c le q has a
+            then_runs w h pc s cx (steps_code methods program.texts (pc + length cx) ss) (effect (call_act methods n) n h.at x) (effects (call_act methods n) n h.at ss) (effect_runs h s x typed.0 pc) (effects_run h s ss typed.1 (pc + length cx)) t st c le q has a

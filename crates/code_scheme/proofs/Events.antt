@@ -9,9 +9,9 @@ use Rattle.wave_base.specs.declared.value.Value.{Value}
 use Rattle.resolved_service.specs.declared.service.Last.{Last}
 use Rattle.resolved_service.specs.declared.service.Method.{Method}
 use Rattle.resolved_service.specs.declared.service.Phase.{Phase}
-use Rattle.resolved_service.specs.Jobs.{replied}
+use Rattle.resolved_service.specs.Jobs.{outcome_of_reply}
 use Rattle.resolved_service.specs.Meaning as m
-use Rattle.resolved_service.specs.Meaning.{State, Leave, Outcome, Done, Trapped, Left, Act, and_then, give, enter_at, release, value, effects, last_value, with_blanks, with_locals, run_method, called, phases_run, ◌>>◌}
+use Rattle.resolved_service.specs.Meaning.{State, Leave, Outcome, Done, Trapped, Left, Act, and_then, give, enter_at, release, value, effects, last_value, with_blanks, with_locals, run_method, call_act, phases_run, ◌>>◌}
 use Rattle.resolved_service.specs.Steps.{steps_in, surely_ends}
 use Rattle.resolved_service.specs.View.{tree_of}
 use Rattle.resolved_service.specs.World.{child, releasing}
@@ -47,13 +47,13 @@ module _ (program : Program) (fit : IsFit program) (verified : IsVerified progra
 
   module _ (n : ℕ) (calls : CallsFollow program fit verified methods n) where
     last_runs : (limit : ℕ) (locals : List Kind) (class : ℕ) (result : Option Kind) (last : Option Last) → IsTypedLast program.shape methods limit locals class false result last → (h : Here) (pc t : ℕ) (at : Span) (st : State) (c : Tour) → t ≤ n → st.world.ticks ≤ t → HasAt program fit verified h.fn pc (return_code methods program.texts pc at false last) → At program fit verified h pc [] st c →
-        Follows program fit verified c (Returning h) (Returned t result) (last_value (called methods n) n h.at last st)
+        Follows program fit verified c (Returning h) (Returned t result) (last_value (call_act methods n) n h.at last st)
     last_runs limit locals class None None typed h pc t at st c le q has a = done program fit verified c (Returning h) (Returned t None) None st (record { pc = pc; place = at; is_line = has.0; is_at = a }) (q, tt)
     last_runs limit locals class None (Some last) typed h pc t at st c le q has a = absurd typed
     last_runs limit locals class (Some kind) None typed h pc t at st c le q has a = absurd typed
     last_runs limit locals class (Some kind) (Some last) typed h pc t at st c le q has a =
         let ce = tree_code methods program.texts pc (tree_of last.value) in
-        bind program fit verified c (OnTop program fit verified methods h (pc + length ce) []) (Low t) (Returning h) (Returned t (Some kind)) (value (called methods n) h.at (tree_of last.value) st) (λ x. give (Some x))
+        bind program fit verified c (OnTop program fit verified methods h (pc + length ce) []) (Low t) (Returning h) (Returned t (Some kind)) (value (call_act methods n) h.at (tree_of last.value) st) (λ x. give (Some x))
         (value_runs program fit verified methods made n calls limit locals class h (tree_of last.value) kind typed t pc [] st c le q (has_front program fit verified h.fn pc ce _ has) a)
         (λ x st1 d a1 q1. done program fit verified d (Returning h) (Returned t (Some kind)) (Some x) st1 (record { pc = pc + length ce; place = last.at; is_line = (has_back program fit verified h.fn pc ce _ has).0; is_at = a1 }) (q1, tt))
 
@@ -82,10 +82,10 @@ module _ (program : Program) (fit : IsFit program) (verified : IsVerified progra
 
   module _ (typed : (m : ℕ) (method : Method) → slice_get methods m ≡ Some method → IsTypedMethod program.shape methods m method) where
     pub calls_follow : (n : ℕ) → CallsFollow program fit verified methods n
-    unfolding called method_code
+    unfolding call_act method_code
     calls_follow zero m method there p vs down g pc s caller st t le q c a = absurd (omega (arith, le, q))
     calls_follow (suc n) m method there p vs down g pc s caller st t le q c a =
-        subst (λ o. Follows program fit verified c (Back program fit verified methods down g pc s) (Returned t method.result) (run_method (called methods n) n o p vs st)) (sym there)
+        subst (λ o. Follows program fit verified c (Back program fit verified methods down g pc s) (Returned t method.result) (run_method (call_act methods n) n o p vs st)) (sym there)
         (leave_runs m method there p down g pc t s st.locals caller c (body first) (run (calls_follow n) (surely_ends (steps_in method.body)) refl (typed m method there).last (has_all program fit verified m _ (is_code m method there))))
       where
         h' : Here
@@ -95,7 +95,7 @@ module _ (program : Program) (fit : IsFit program) (verified : IsVerified progra
         first = record { locals = with_blanks vs method.locals; world = st.world }
 
         body : Act (Option Value)
-        body = effects (called methods n) n p (steps_in method.body) >> last_value (called methods n) n p method.last
+        body = effects (call_act methods n) n p (steps_in method.body) >> last_value (call_act methods n) n p method.last
 
         cb : List Line
         cb = steps_code methods program.texts 0 (steps_in method.body)
@@ -112,31 +112,31 @@ module _ (program : Program) (fit : IsFit program) (verified : IsVerified progra
         After : Unit {0} → State → Tour → Type 0
         After = Onward program fit verified h' (0 + length cb) []
 
-        statements : CallsFollow program fit verified methods n → HasAt program fit verified m 0 cb → Performs program fit verified c After (Low (t - 1)) (Leaves (t - 1)) (effects (called methods n) n p (steps_in method.body) first)
+        statements : CallsFollow program fit verified methods n → HasAt program fit verified m 0 cb → Performs program fit verified c After (Low (t - 1)) (Leaves (t - 1)) (effects (call_act methods n) n p (steps_in method.body) first)
         statements ih has = effects_run program fit verified methods made n ih m method.locals method.class.0 (InMethod method.result) h' [] (steps_in method.body) (typed m method there).body 0 (t - 1) first c (omega (arith, le, q)) (omega (arith, q)) has a
 
         run : CallsFollow program fit verified methods n → (b : Bool) → surely_ends (steps_in method.body) ≡ b → IsTypedLast program.shape methods m method.locals method.class.0 b method.result method.last → HasAt program fit verified m 0 (cb ++ return_code methods program.texts (length cb) method.at b method.last) →
             Performs program fit verified c (Returning h') (Returned t method.result) (Leaves t) (body first)
         run ih true ended last has =
-            bind_on program fit verified c (λ u st d. ⊥) (Low (t - 1)) (Leaves (t - 1)) (Returning h') (Returned t method.result) (Leaves t) (effects (called methods n) n p (steps_in method.body) first) (λ u. last_value (called methods n) n p method.last)
-            (never_ends program fit verified c After (Low (t - 1)) (Leaves (t - 1)) (λ u st d. ⊥) (Low (t - 1)) (effects (called methods n) n p (steps_in method.body) first) (never_effects (called methods n) n p (steps_in method.body) ended first) (statements ih (has_front program fit verified m 0 cb _ has)))
+            bind_on program fit verified c (λ u st d. ⊥) (Low (t - 1)) (Leaves (t - 1)) (Returning h') (Returned t method.result) (Leaves t) (effects (call_act methods n) n p (steps_in method.body) first) (λ u. last_value (call_act methods n) n p method.last)
+            (never_ends program fit verified c After (Low (t - 1)) (Leaves (t - 1)) (λ u st d. ⊥) (Low (t - 1)) (effects (call_act methods n) n p (steps_in method.body) first) (never_effects (call_act methods n) n p (steps_in method.body) ended first) (statements ih (has_front program fit verified m 0 cb _ has)))
             (leaving_lower program fit verified (InMethod method.result) h' (t - 1) t [] (omega arith)) (λ u st1 d a1 q1. absurd a1)
         run ih false ended last has =
-            bind_on program fit verified c After (Low (t - 1)) (Leaves (t - 1)) (Returning h') (Returned t method.result) (Leaves t) (effects (called methods n) n p (steps_in method.body) first) (λ u. last_value (called methods n) n p method.last)
+            bind_on program fit verified c After (Low (t - 1)) (Leaves (t - 1)) (Returning h') (Returned t method.result) (Leaves t) (effects (call_act methods n) n p (steps_in method.body) first) (λ u. last_value (call_act methods n) n p method.last)
             (statements ih (has_front program fit verified m 0 cb _ has))
             (leaving_lower program fit verified (InMethod method.result) h' (t - 1) t [] (omega arith))
-            (λ u st1 d a1 q1. performs program fit verified d (Returning h') (Returned t method.result) (Leaves t) (last_value (called methods n) n p method.last st1)
-            (ends program fit verified d (Returning h') (Returned (t - 1) method.result) (Returning h') (Returned t method.result) (last_value (called methods n) n p method.last st1)
+            (λ u st1 d a1 q1. performs program fit verified d (Returning h') (Returned t method.result) (Leaves t) (last_value (call_act methods n) n p method.last st1)
+            (ends program fit verified d (Returning h') (Returned (t - 1) method.result) (Returning h') (Returned t method.result) (last_value (call_act methods n) n p method.last st1)
             (last_runs n ih m method.locals method.class.0 method.result method.last last h' (length cb) (t - 1) method.at st1 d (omega (arith, le, q)) q1 (subst (λ x. HasAt program fit verified m x (return_code methods program.texts (length cb) method.at false method.last)) none_more (has_back program fit verified m 0 cb _ has)) (place_is program fit verified h' (0 + length cb) (length cb) [] st1 d none_more a1))
             (λ r st2 d2 a2 k2. (a2, lower st2 r k2))))
 
     -- ---- events
 
     abbrev pub EndsAs : Outcome (Option Value) → Tour → Type 0
-    EndsAs (Done r st) d = IsOver (record { outcome = replied r; messages = st.world.messages; created = st.world.created }) st.world d
+    EndsAs (Done r st) d = IsOver (record { outcome = outcome_of_reply r; messages = st.world.messages; created = st.world.created }) st.world d
     EndsAs (Trapped k at w) d = IsOver (trap_result k at) w d
     EndsAs (Left (m.Returned r) st) d = ⊥
-    EndsAs (Left (m.Finished r) st) d = IsOver (record { outcome = replied r; messages = st.world.messages; created = st.world.created }) st.world d
+    EndsAs (Left (m.Finished r) st) d = IsOver (record { outcome = outcome_of_reply r; messages = st.world.messages; created = st.world.created }) st.world d
 
     pub record Finishes (c : Tour) (o : Outcome (Option Value)) : Type 0 where
       pub is : (d : Tour) × Leads program fit verified c d × EndsAs o d
@@ -154,39 +154,39 @@ module _ (program : Program) (fit : IsFit program) (verified : IsVerified progra
     finish_on reply h t s c after K (Left (m.Finished r) st) f p g = record { is = p.is }
 
     module _ (n t : ℕ) (le : t ≤ n) (limit : ℕ) (locals : List Kind) (at : Span) where
-      reply_finish : (class : ℕ) (reply : Option Kind) (last : Option Last) → IsTypedLast program.shape methods limit locals class false reply last → (h : Here) (pc : ℕ) (st : State) (c : Tour) → st.world.ticks ≤ t → HasAt program fit verified h.fn pc (reply_code methods program.texts pc at false last) → At program fit verified h pc [] st c → Finishes c (last_value (called methods n) n h.at last st)
+      reply_finish : (class : ℕ) (reply : Option Kind) (last : Option Last) → IsTypedLast program.shape methods limit locals class false reply last → (h : Here) (pc : ℕ) (st : State) (c : Tour) → st.world.ticks ≤ t → HasAt program fit verified h.fn pc (reply_code methods program.texts pc at false last) → At program fit verified h pc [] st c → Finishes c (last_value (call_act methods n) n h.at last st)
       reply_finish class None None typed h pc st c q has a = record { is = end_runs program fit verified h pc [] st c a at has.0 }
       reply_finish class None (Some last) typed h pc st c q has a = absurd typed
       reply_finish class (Some kind) None typed h pc st c q has a = absurd typed
       reply_finish class (Some kind) (Some last) typed h pc st c q has a =
           let ce = tree_code methods program.texts pc (tree_of last.value) in
-          finish c (OnTop program fit verified methods h (pc + length ce) []) (Low t) (value (called methods n) h.at (tree_of last.value) st) (λ x. give (Some x))
+          finish c (OnTop program fit verified methods h (pc + length ce) []) (Low t) (value (call_act methods n) h.at (tree_of last.value) st) (λ x. give (Some x))
           (value_runs program fit verified methods made n (calls_follow n) limit locals class h (tree_of last.value) kind typed t pc [] st c le q (has_front program fit verified h.fn pc ce _ has) a)
           (λ x st1 d a1 q1. record { is = reply_runs program fit verified h (pc + length ce) x [] st1 d a1 last.at (has_back program fit verified h.fn pc ce _ has).0 })
 
       -- the block of a phase, and what comes behind it
       through : (f : Phase) (fs : List Phase) (reply : Option Kind) (last : Option Last) (h : Here) (pc : ℕ) (st : State) (c : Tour) → AreTyped program.shape methods limit locals f.class.0 (InEvent reply) (steps_in f.body) → st.world.ticks ≤ t → At program fit verified h pc [] st c → (b : Bool) → surely_ends (steps_in f.body) ≡ b → AreTypedPhases program.shape methods limit locals f.class.0 b fs reply last →
           HasAt program fit verified h.fn pc (steps_code methods program.texts pc (steps_in f.body) ++ phases_code methods program.texts (pc + length (steps_code methods program.texts pc (steps_in f.body))) b fs at last) →
-          (AreTypedPhases program.shape methods limit locals f.class.0 false fs reply last → (pc' : ℕ) (st' : State) (d : Tour) → st'.world.ticks ≤ t → HasAt program fit verified h.fn pc' (phases_code methods program.texts pc' false fs at last) → At program fit verified h pc' [] st' d → Finishes d (phases_run (called methods n) n fs last h.at st')) →
-          Finishes c ((effects (called methods n) n h.at (steps_in f.body) >> phases_run (called methods n) n fs last h.at) st)
+          (AreTypedPhases program.shape methods limit locals f.class.0 false fs reply last → (pc' : ℕ) (st' : State) (d : Tour) → st'.world.ticks ≤ t → HasAt program fit verified h.fn pc' (phases_code methods program.texts pc' false fs at last) → At program fit verified h pc' [] st' d → Finishes d (phases_run (call_act methods n) n fs last h.at st')) →
+          Finishes c ((effects (call_act methods n) n h.at (steps_in f.body) >> phases_run (call_act methods n) n fs last h.at) st)
       through f fs reply last h pc st c body q a true ended typed has on =
           let cb = steps_code methods program.texts pc (steps_in f.body) in
-          let o = effects (called methods n) n h.at (steps_in f.body) st in
-          finish_on reply h t [] c (λ u st d. ⊥) (Low t) o (λ u. phases_run (called methods n) n fs last h.at)
-          (never_ends program fit verified c (Onward program fit verified h (pc + length cb) []) (Low t) (Leaving program fit verified (InEvent reply) h t []) (λ u st d. ⊥) (Low t) o (never_effects (called methods n) n h.at (steps_in f.body) ended st)
+          let o = effects (call_act methods n) n h.at (steps_in f.body) st in
+          finish_on reply h t [] c (λ u st d. ⊥) (Low t) o (λ u. phases_run (call_act methods n) n fs last h.at)
+          (never_ends program fit verified c (Onward program fit verified h (pc + length cb) []) (Low t) (Leaving program fit verified (InEvent reply) h t []) (λ u st d. ⊥) (Low t) o (never_effects (call_act methods n) n h.at (steps_in f.body) ended st)
           (effects_run program fit verified methods made n (calls_follow n) limit locals f.class.0 (InEvent reply) h [] (steps_in f.body) body pc t st c le q (has_front program fit verified h.fn pc cb _ has) a))
           (λ u st4 d4 a4 q4. absurd a4)
       through f fs reply last h pc st c body q a false ended typed has on =
           let cb = steps_code methods program.texts pc (steps_in f.body) in
-          let o = effects (called methods n) n h.at (steps_in f.body) st in
-          finish_on reply h t [] c (Onward program fit verified h (pc + length cb) []) (Low t) o (λ u. phases_run (called methods n) n fs last h.at)
+          let o = effects (call_act methods n) n h.at (steps_in f.body) st in
+          finish_on reply h t [] c (Onward program fit verified h (pc + length cb) []) (Low t) o (λ u. phases_run (call_act methods n) n fs last h.at)
           (effects_run program fit verified methods made n (calls_follow n) limit locals f.class.0 (InEvent reply) h [] (steps_in f.body) body pc t st c le q (has_front program fit verified h.fn pc cb _ has) a)
           (λ u st4 d4 a4 q4. on typed (pc + length cb) st4 d4 q4 (has_back program fit verified h.fn pc cb _ has) a4)
 
-      pub phases_finish : (fs : List Phase) (class : ℕ) (reply : Option Kind) (last : Option Last) → AreTypedPhases program.shape methods limit locals class false fs reply last → (h : Here) (pc : ℕ) (st : State) (c : Tour) → st.world.ticks ≤ t → HasAt program fit verified h.fn pc (phases_code methods program.texts pc false fs at last) → At program fit verified h pc [] st c → Finishes c (phases_run (called methods n) n fs last h.at st)
+      pub phases_finish : (fs : List Phase) (class : ℕ) (reply : Option Kind) (last : Option Last) → AreTypedPhases program.shape methods limit locals class false fs reply last → (h : Here) (pc : ℕ) (st : State) (c : Tour) → st.world.ticks ≤ t → HasAt program fit verified h.fn pc (phases_code methods program.texts pc false fs at last) → At program fit verified h pc [] st c → Finishes c (phases_run (call_act methods n) n fs last h.at st)
       phases_finish [] class reply last typed h pc st c q has a = reply_finish class reply last typed h pc st c q has a
       phases_finish (f ∷ fs) class reply last typed h pc st c q has a =
-          finish c (OnTop program fit verified methods h (pc + length ck) []) (Low t) (value (called methods n) h.at (tree_of f.key) st) (λ k. enter_at (child h.at f.class.0 k) f.at >> rest k)
+          finish c (OnTop program fit verified methods h (pc + length ck) []) (Low t) (value (call_act methods n) h.at (tree_of f.key) st) (λ k. enter_at (child h.at f.class.0 k) f.at >> rest k)
           (value_runs program fit verified methods made n (calls_follow n) limit locals class h (tree_of f.key) k.Int typed.1 t pc [] st c le q (has_front program fit verified h.fn pc ck _ has) a)
           (λ k st1 d1 a1 q1. let h' = lower k in
           finish d1 (λ u st' d. At program fit verified h' (suc (pc + length ck)) [] (record { locals = st1.locals; world = releasing h'.at st'.world }) d) (λ u st'. (st'.locals ≡ st1.locals) × (st'.world.ticks ≡ st1.world.ticks)) (enter_at h'.at f.at st1) (λ u. rest k)
@@ -204,7 +204,7 @@ module _ (program : Program) (fit : IsFit program) (verified : IsVerified progra
           cb = steps_code methods program.texts (pc + length ck + 1) (steps_in f.body)
 
           rest : Value → Act (Option Value)
-          rest k = release (child h.at f.class.0 k) >> (effects (called methods n) n (child h.at f.class.0 k) (steps_in f.body) >> phases_run (called methods n) n fs last (child h.at f.class.0 k))
+          rest k = release (child h.at f.class.0 k) >> (effects (call_act methods n) n (child h.at f.class.0 k) (steps_in f.body) >> phases_run (call_act methods n) n fs last (child h.at f.class.0 k))
 
           l0 : HasAt program fit verified h.fn (pc + length ck) (line (i.Go f.class) f.at ∷ (cb ++ phases_code methods program.texts (pc + length ck + 1 + length cb) (surely_ends (steps_in f.body)) fs at last))
           l0 = has_back program fit verified h.fn pc ck _ has

@@ -12,8 +12,8 @@ use Rattle.wave_base.specs.Paths.{path_eq, path_cmp, is_above, parent_of}
 use Rattle.wave_base.specs.PathLaws.{path_eq_decides}
 use Rattle.wave_base.proofs.Trees.{there-enter}
 use Rattle.resolved_service.specs.Meaning.{State}
-use Rattle.resolved_service.specs.World.{World, changed}
-use Rattle.service_verify.specs.Steps.{Move, with_some, taken}
+use Rattle.resolved_service.specs.World.{World, after_change}
+use Rattle.service_verify.specs.Steps.{Move, with_some, taken_values}
 use Rattle.code_scheme.specs.Texts.{Text, place_of_text}
 use Rattle.code_scheme.proofs.Follow.{Here, frame_of, SameHeld, Moving}
 
@@ -61,20 +61,20 @@ abbrev pub pushed : List Value → List Value → List Value
 pushed [] s = s
 pushed (x ∷ xs) s = pushed xs (x ∷ s)
 
-take_more : (vs acc s : List Value) (n : ℕ) → taken (length vs + n) acc (pushed vs s) ≡ taken n (vs ++ acc) s
-take_more [] acc s n = let e : zero + n ≡ n = omega arith in ap (λ m. taken m acc s) e
+take_more : (vs acc s : List Value) (n : ℕ) → taken_values (length vs + n) acc (pushed vs s) ≡ taken_values n (vs ++ acc) s
+take_more [] acc s n = let e : zero + n ≡ n = omega arith in ap (λ m. taken_values m acc s) e
 take_more (x ∷ vs) acc s n =
     let e : suc (length vs) + n ≡ length vs + suc n = omega arith in
-    ap (λ m. taken m acc (pushed vs (x ∷ s))) e ∙ take_more vs acc (x ∷ s) (suc n)
+    ap (λ m. taken_values m acc (pushed vs (x ∷ s))) e ∙ take_more vs acc (x ∷ s) (suc n)
 
 append_none : {A : Type 0} (l : List A) → l ++ [] ≡ l
 append_none [] = refl
 append_none (x ∷ l) = ap (λ m. x ∷ m) (append_none l)
 
-pub take_pushed : (m : ℕ) (vs s : List Value) → m ≡ length vs → taken m [] (pushed vs s) ≡ Some (vs, s)
+pub take_pushed : (m : ℕ) (vs s : List Value) → m ≡ length vs → taken_values m [] (pushed vs s) ≡ Some (vs, s)
 take_pushed m vs s e =
     let e' : m ≡ length vs + 0 = omega (arith, e) in
-    ap (λ m. taken m [] (pushed vs s)) e' ∙ take_more vs [] s 0 ∙ ap (λ l. Some (l, s)) (append_none vs)
+    ap (λ m. taken_values m [] (pushed vs s)) e' ∙ take_more vs [] s 0 ∙ ap (λ l. Some (l, s)) (append_none vs)
 
 -- ---- what is held
 
@@ -128,7 +128,7 @@ Low t a st = st.world.ticks ≤ t
 
 -- a world after the way back to the parent
 abbrev pub back_if : Bool → World → World
-back_if true w = changed w
+back_if true w = after_change w
 back_if false w = w
 
 -- where a callee begins

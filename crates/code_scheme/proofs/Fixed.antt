@@ -19,7 +19,7 @@ use Rattle.service_code.specs.declared.program.Program.{Program}
 use Rattle.service_verify.specs.declared.error.Rule.TheVariants as rule
 use Rattle.service_verify.specs.declared.point.Point.{Point}
 use Rattle.service_verify.specs.Points.{is_empty, kept_stack, point_after}
-use Rattle.service_verify.specs.Rules.{found, must, judged_then, kind_eq, operands, a_bool, effect_of, left_below, ends, class_after, next_of}
+use Rattle.service_verify.specs.Rules.{judged_item, must, judged_then, kind_eq, operands, a_bool, effect_of, left_below, ends, class_after, next_of}
 use Rattle.code_scheme.specs.Scheme.{Line, line}
 use Rattle.code_scheme.specs.Texts.{Text, place_of_text}
 use Rattle.code_scheme.proofs.Flow.{Flow, flow_line}
@@ -165,11 +165,11 @@ module _ (program : Program) (number : ℕ) (function : Function) where
 
     pub load_flow : (pc pc' x : ℕ) (kind : Kind) (at : Span) (s : List Kind) → pc' ≡ pc + 1 → slice_get ls pc ≡ Some (line (i.Load x) at) → slice_get function.locals x ≡ Some kind → suc (length s) ≤ function.stack → Flow program number function ls pc pc' (pt c s) (pt c (kind ∷ s))
     unfolding effect_of
-    load_flow pc pc' x kind at s e is there h = line_flow pc pc' (line (i.Load x) at) [] (Some kind) s s e is (ap (λ o. found rule.Field o (λ kind. Ok (record { takes = []; gives = Some kind }))) there) refl h refl refl (λ n. refl)
+    load_flow pc pc' x kind at s e is there h = line_flow pc pc' (line (i.Load x) at) [] (Some kind) s s e is (ap (λ o. judged_item rule.Field o (λ kind. Ok (record { takes = []; gives = Some kind }))) there) refl h refl refl (λ n. refl)
 
     pub store_flow : (pc pc' x : ℕ) (kind : Kind) (at : Span) (s : List Kind) → pc' ≡ pc + 1 → slice_get ls pc ≡ Some (line (i.Store x) at) → slice_get function.locals x ≡ Some kind → length s ≤ function.stack → Flow program number function ls pc pc' (pt c (kind ∷ s)) (pt c s)
     unfolding effect_of
-    store_flow pc pc' x kind at s e is there h = line_flow pc pc' (line (i.Store x) at) (Some kind ∷ []) None (kind ∷ s) s e is (ap (λ o. found rule.Field o (λ kind. Ok (record { takes = Some kind ∷ []; gives = None }))) there) (ap (λ b. must rule.Kind b (Ok s)) (kind_self kind)) h refl refl (λ n. refl)
+    store_flow pc pc' x kind at s e is there h = line_flow pc pc' (line (i.Store x) at) (Some kind ∷ []) None (kind ∷ s) s e is (ap (λ o. judged_item rule.Field o (λ kind. Ok (record { takes = Some kind ∷ []; gives = None }))) there) (ap (λ b. must rule.Kind b (Ok s)) (kind_self kind)) h refl refl (λ n. refl)
 
     pub row_flow : (pc pc' r : ℕ) (at : Span) (s : List Kind) → pc' ≡ pc + 1 → slice_get ls pc ≡ Some (line (i.Op r) at) → r < OPERATORS → suc (length s) ≤ function.stack → Flow program number function ls pc pc' (pt c (pushed_kinds (takes_of r) s)) (pt c (gives_of r ∷ s))
     unfolding effect_of

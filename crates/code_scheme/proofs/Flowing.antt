@@ -16,7 +16,7 @@ use Rattle.service_code.specs.declared.instr.Instr.TheVariants as i
 use Rattle.service_code.specs.declared.program.Function.{Function}
 use Rattle.service_code.specs.declared.program.Program.{Program}
 use Rattle.service_verify.specs.declared.error.Rule.TheVariants as rule
-use Rattle.service_verify.specs.Rules.{found, must, levels_above, operands, an_int, is_method_of, calls, effect_of}
+use Rattle.service_verify.specs.Rules.{judged_item, must, levels_above, operands, an_int, is_method_of, calls, effect_of}
 use Rattle.code_scheme.specs.Heights.{one_if, tree_height, trees_height}
 use Rattle.code_scheme.specs.Programs.{method_function}
 use Rattle.code_scheme.specs.Scheme.{Line, line, gives_in, leaves_value, and_code, or_code, literal_instr, tree_code, trees_code}
@@ -31,7 +31,7 @@ module _ (program : Program) (number : ℕ) (function : Function) (ls : List Lin
   own_effect : (class m : ℕ) (result : Option Kind) (is : IsMethod methods class m result) → m < limit → effect_of program number function class (i.Call m) ≡ Ok (record { takes = operands is.method.params ++ []; gives = result })
   unfolding effect_of
   own_effect class m result is lt =
-      ap (λ o. found rule.Call o (λ f. must rule.Call (is_method_of program number function class class f && nat_lt m number) (calls program number function class f []))) (made m is.method is.is_there)
+      ap (λ o. judged_item rule.Call o (λ f. must rule.Call (is_method_of program number function class class f && nat_lt m number) (calls program number function class f []))) (made m is.method is.is_there)
       ∙ ap (λ n. must rule.Call ((n == class) && nat_lt m number) (Ok (record { takes = operands is.method.params ++ []; gives = is.method.result }))) is.class_is
       ∙ ap (λ b. must rule.Call (b && nat_lt m number) (Ok (record { takes = operands is.method.params ++ []; gives = is.method.result }))) (number_self class)
       ∙ ap (λ b. must rule.Call b (Ok (record { takes = operands is.method.params ++ []; gives = is.method.result }))) (below_is m number (omega (arith, lt, low)))
@@ -40,8 +40,8 @@ module _ (program : Program) (number : ℕ) (function : Function) (ls : List Lin
   down_effect : (class child m : ℕ) (result : Option Kind) (is : IsMethod methods child m result) → IsChild program.shape class child → effect_of program number function class (i.CallDown (record { 0 = child }) m) ≡ Ok (record { takes = operands is.method.params ++ an_int ∷ []; gives = result })
   unfolding effect_of
   down_effect class child m result is below =
-      ap (λ b. must rule.Call b (found rule.Call (slice_get program.functions m) (λ f. must rule.Call (is_method_of program number function class child f) (calls program number function class f (an_int ∷ []))))) below
-      ∙ ap (λ o. found rule.Call o (λ f. must rule.Call (is_method_of program number function class child f) (calls program number function class f (an_int ∷ [])))) (made m is.method is.is_there)
+      ap (λ b. must rule.Call b (judged_item rule.Call (slice_get program.functions m) (λ f. must rule.Call (is_method_of program number function class child f) (calls program number function class f (an_int ∷ []))))) below
+      ∙ ap (λ o. judged_item rule.Call o (λ f. must rule.Call (is_method_of program number function class child f) (calls program number function class f (an_int ∷ [])))) (made m is.method is.is_there)
       ∙ ap (λ n. must rule.Call (n == child) (Ok (record { takes = operands is.method.params ++ an_int ∷ []; gives = is.method.result }))) is.class_is
       ∙ ap (λ b. must rule.Call b (Ok (record { takes = operands is.method.params ++ an_int ∷ []; gives = is.method.result }))) (number_self child)
       ∙ ap (λ o. Ok (record { takes = operands is.method.params ++ an_int ∷ []; gives = o })) is.result_is
@@ -53,21 +53,21 @@ module _ (program : Program) (number : ℕ) (function : Function) (ls : List Lin
     literal_flow (v.Bool b) kind typed among pc pc' at s e is h = subst (λ kind. Flow program number function ls pc pc' (pt c s) (pt c (kind ∷ s))) typed.0 (bool_flow program number function ls c pc pc' b at s e is h)
     literal_flow (v.Str t) kind typed among pc pc' at s e is h =
         subst (λ kind. Flow program number function ls pc pc' (pt c s) (pt c (kind ∷ s))) typed.0
-        (line_flow program number function ls c pc pc' (line (i.PushText (place_of_text program.texts t)) at) [] (Some k.Text) s s e is (ap (λ o. found rule.Field o (λ t. Ok (record { takes = []; gives = Some k.Text }))) (text_found program.texts t (among_one program.texts t among))) refl h refl refl (λ n. refl))
+        (line_flow program number function ls c pc pc' (line (i.PushText (place_of_text program.texts t)) at) [] (Some k.Text) s s e is (ap (λ o. judged_item rule.Field o (λ t. Ok (record { takes = []; gives = Some k.Text }))) (text_found program.texts t (among_one program.texts t among))) refl h refl refl (λ n. refl))
     literal_flow (v.Map m) kind typed among pc pc' at s e is h =
         subst (λ kind. Flow program number function ls pc pc' (pt c s) (pt c (kind ∷ s))) typed.0
         (line_flow program number function ls c pc pc' (line i.PushEmpty at) [] (Some k.Map) s s e is refl refl h refl refl (λ n. refl))
 
     field_flow : (pc pc' x : ℕ) (kind : Kind) (at : Span) (s : List Kind) → pc' ≡ pc + 1 → slice_get ls pc ≡ Some (line (i.Field x) at) → slice_get (kinds_of_class program.shape c.0) x ≡ Some kind → suc (length s) ≤ function.stack → Flow program number function ls pc pc' (pt c s) (pt c (kind ∷ s))
     unfolding effect_of
-    field_flow pc pc' x kind at s e is there h = line_flow program number function ls c pc pc' (line (i.Field x) at) [] (Some kind) s s e is (ap (λ o. found rule.Field o (λ kind. Ok (record { takes = []; gives = Some kind }))) there) refl h refl refl (λ n. refl)
+    field_flow pc pc' x kind at s e is there h = line_flow program number function ls c pc pc' (line (i.Field x) at) [] (Some kind) s s e is (ap (λ o. judged_item rule.Field o (λ kind. Ok (record { takes = []; gives = Some kind }))) there) refl h refl refl (λ n. refl)
 
     above_flow : (pc pc' level x d : ℕ) (kind : Kind) (at : Span) (s : List Kind) → pc' ≡ pc + 1 → slice_get ls pc ≡ Some (line (i.Above level x) at) → slice_get (levels_above program.shape c.0) level ≡ Some d → slice_get (kinds_of_class program.shape d) x ≡ Some kind → suc (length s) ≤ function.stack → Flow program number function ls pc pc' (pt c s) (pt c (kind ∷ s))
     unfolding effect_of
     above_flow pc pc' level x d kind at s e is up there h =
         line_flow program number function ls c pc pc' (line (i.Above level x) at) [] (Some kind) s s e is
-        (ap (λ o. found rule.Field o (λ c. found rule.Field (slice_get (kinds_of_class program.shape c) x) (λ kind. Ok (record { takes = []; gives = Some kind })))) up
-        ∙ ap (λ o. found rule.Field o (λ kind. Ok (record { takes = []; gives = Some kind }))) there) refl h refl refl (λ n. refl)
+        (ap (λ o. judged_item rule.Field o (λ c. judged_item rule.Field (slice_get (kinds_of_class program.shape c) x) (λ kind. Ok (record { takes = []; gives = Some kind })))) up
+        ∙ ap (λ o. judged_item rule.Field o (λ kind. Ok (record { takes = []; gives = Some kind }))) there) refl h refl refl (λ n. refl)
 
     -- a call's own part, behind its arguments
     pub own_flow : (pc m : ℕ) (result : Option Kind) (at : Span) (s : List Kind) (ca : List Line) (is : IsMethod methods c.0 m result) → m < limit → StandsAt ls pc (ca ++ line i.Tick at ∷ line (i.Call m) at ∷ []) → length is.method.params + length s ≤ function.stack → length (option_to_list result ++ s) ≤ function.stack →

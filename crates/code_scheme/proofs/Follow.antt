@@ -19,7 +19,7 @@ use Rattle.service_verify.specs.Boxes.{Frame, Box}
 use Rattle.service_verify.specs.Fit.{IsFit}
 use Rattle.service_verify.specs.Points.{IsVerified}
 use Rattle.service_verify.specs.Standing.{MovesOn}
-use Rattle.service_verify.specs.Steps.{Move, Runs, Paused, Lost, with_some, acts, acted, trapped, one_step, is_held, code_of, places_of}
+use Rattle.service_verify.specs.Steps.{Move, Runs, Paused, Lost, with_some, acts, acted, trap_move, one_step, is_held, code_of, places_of}
 use Rattle.service_verify.specs.Tours.{Fields, fields_above, Tour}
 use Rattle.code_scheme.specs.Scheme.{Line, line}
 use Rattle.code_scheme.proofs.Micro.{resumed, move_of, micro_if, micro, micros, micros_none, micros_more, micros_add, Alive, moves_on, stays_alive}
@@ -189,7 +189,7 @@ module _ (program : Program) (fit : IsFit program) (verified : IsVerified progra
     steps_on h' pc' s' locals m = runs_on h' pc' s' (record { locals = locals; world = st.world }) (st.world.tree.fields h.at) m (put_same st.world.tree h.at) refl refl refl
 
     -- it is over
-    pub traps : (k : TrapKind) → move_at h pc s st a.held i at ≡ trapped k at (box_of h pc s st a.held) (st.world.tree.fields h.at) → (d : Tour) × Leads t d × IsOver (trap_result k at) st.world d
+    pub traps : (k : TrapKind) → move_at h pc s st a.held i at ≡ trap_move k at (box_of h pc s st a.held) (st.world.tree.fields h.at) → (d : Tour) × Leads t d × IsOver (trap_result k at) st.world d
     traps k m =
         let e = ap (resumed (tour_of h pc s st a.held)) m in
         (_, leads _ e, record { result = refl; tree = put_same st.world.tree h.at; entered = refl; segments = refl })

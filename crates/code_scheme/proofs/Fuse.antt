@@ -19,7 +19,7 @@ use Rattle.service_verify.specs.Points.{IsVerified}
 use Rattle.service_verify.specs.Segments.{go_on, enough, steps, segment}
 use Rattle.service_verify.specs.Standing.{MovesOn}
 use Rattle.service_verify.specs.Steps.{Move, Runs, Paused, Lost, one_step, frames_step, acted, places_of, is_held}
-use Rattle.service_verify.specs.Tours.{Fields, fields_from, fields_above, Tour, tree_with, into, halted, toured, tour_if, next_tour, tour_after}
+use Rattle.service_verify.specs.Tours.{Fields, fields_from, fields_above, Tour, tree_with, into, tour_at_pause, tour_with, tour_if, next_tour, tour_after}
 use Rattle.service_verify.proofs.Lasting.{HasStopped, ends}
 use Rattle.service_verify.proofs.Ways.{OnRun, some_run}
 use Rattle.code_scheme.proofs.Held.{acted_held}
@@ -102,7 +102,7 @@ module _ (program : Program) (fit : IsFit program) (verified : IsVerified progra
         go true = λ i. record { box = b'; tree = mid_tree b fields fields' at i; entered = t.entered; segments = suc t.segments; result = None }
         go false = λ i. record { box = b'; tree = enter (mid_tree b fields fields' at i) b'.path; entered = t.entered ++ b'.path ∷ []; segments = suc t.segments; result = None }
 
-    halted_same : (b b' : Box) (fields fields' : Fields) (why : Pause) → b.path ≡ t.box.path → b.held ≡ t.box.held → halted (mid t b fields) b' fields' why ≡ halted t b' fields' why
+    halted_same : (b b' : Box) (fields fields' : Fields) (why : Pause) → b.path ≡ t.box.path → b.held ≡ t.box.held → tour_at_pause (mid t b fields) b' fields' why ≡ tour_at_pause t b' fields' why
     halted_same b b' fields fields' (pause.Go s) at held = into_same b b' fields fields' _ _ at (ap (λ l. is_held l b'.path) held)
     halted_same b b' fields fields' (pause.Down s) at held = into_same b b' fields fields' _ _ at (ap (λ l. is_held l b'.path) held)
     halted_same b b' fields fields' pause.Back at held = λ i. record { box = b'; tree = mid_tree b fields fields' at i; entered = t.entered; segments = suc t.segments; result = None }
@@ -129,7 +129,7 @@ module _ (program : Program) (fit : IsFit program) (verified : IsVerified progra
     mid_same : mid t t.box (t.tree.fields t.box.path) ≡ t
     mid_same = λ i. record { box = t.box; tree = put_same t.tree t.box.path i; entered = t.entered; segments = t.segments; result = t.result }
 
-    stopped_same : (m : Move) → HasStopped m → resumed t m ≡ toured t m
+    stopped_same : (m : Move) → HasStopped m → resumed t m ≡ tour_with t m
     stopped_same (Runs b fields) h = absurd h
     stopped_same (Paused b fields why) h = refl
     stopped_same Lost h = refl

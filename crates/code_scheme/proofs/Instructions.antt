@@ -19,7 +19,7 @@ use Rattle.value_ops.specs.Kinds.{Answer}
 use Rattle.value_ops.specs.Operators.{takes_of, apply_row}
 use Rattle.resolved_service.specs.Meaning.{row_put, row_cut, set_local, put_field, State, Done, Act, and_then, answer, with_world, tick, choose, demand}
 use Rattle.resolved_service.specs.World as world
-use Rattle.resolved_service.specs.World.{World, nothing, is_true, took, sending, spawning}
+use Rattle.resolved_service.specs.World.{World, nothing, is_true, after_tick, sending, spawning}
 use Rattle.service_code.specs.declared.instr.Instr.{Instr}
 use Rattle.service_code.specs.declared.instr.Instr.TheVariants as i
 use Rattle.service_code.specs.declared.program.Function.{Function}
@@ -27,7 +27,7 @@ use Rattle.service_code.specs.declared.program.Program.{Program}
 use Rattle.service_verify.specs.Boxes.{Box, first_locals}
 use Rattle.service_verify.specs.Fit.{IsFit}
 use Rattle.service_verify.specs.Points.{IsVerified}
-use Rattle.service_verify.specs.Steps.{Move, Runs, Lost, with_some, taken, has_kinds, with_operands, answered, trapped, on_int, created, ticking, put_row, cut_row}
+use Rattle.service_verify.specs.Steps.{Move, Runs, Lost, with_some, taken_values, has_kinds, with_operands, answer_move, trap_move, on_int, created, ticking, put_row, cut_row}
 use Rattle.service_verify.specs.Tours.{Tour, Fields, fields_from, fields_above}
 use Rattle.code_scheme.specs.Texts.{Text, place_of_text}
 use Rattle.code_scheme.proofs.Follow.{Here, frame_of, box_of, Moving, At, Leads, place_is, Follows, lead_in, done, move_at, IsLine, moving, runs_on, steps_on, traps}
@@ -38,13 +38,13 @@ module _ (program : Program) (fit : IsFit program) (verified : IsVerified progra
 
   module _ (h : Here) (pc : ℕ) (s : List Value) (st : State) (t : Tour) (a : At program fit verified h pc s st t) (ins : Instr) (at : Span) (l : IsLine program fit verified h.fn pc ins at) where
     -- a value, or its trap, and then what is done with the value
-    pub answer_then : {B : Type 0} (o : Answer Value) (go : Value → Move) → move_at program fit verified h pc s st a.held ins at ≡ answered o at (box_of h pc s st a.held) (st.world.tree.fields h.at) go →
+    pub answer_then : {B : Type 0} (o : Answer Value) (go : Value → Move) → move_at program fit verified h pc s st a.held ins at ≡ answer_move o at (box_of h pc s st a.held) (st.world.tree.fields h.at) go →
         (next : B → State → Tour → Type 0) (K : B → State → Type 0) (f : Value → Act B) →
         ((x : Value) → move_at program fit verified h pc s st a.held ins at ≡ go x → Follows program fit verified t next K (f x st)) → Follows program fit verified t next K (and_then (answer o at st) f)
     answer_then (Ok x) go m next K f done = done x m
     answer_then (Err kind) go m next K f done = record { is = traps program fit verified h pc s st t a ins at l kind m }
 
-    pub answer_runs : (o : Answer Value) (go : Value → Move) → move_at program fit verified h pc s st a.held ins at ≡ answered o at (box_of h pc s st a.held) (st.world.tree.fields h.at) go →
+    pub answer_runs : (o : Answer Value) (go : Value → Move) → move_at program fit verified h pc s st a.held ins at ≡ answer_move o at (box_of h pc s st a.held) (st.world.tree.fields h.at) go →
         (next : Value → State → Tour → Type 0) (K : Value → State → Type 0) →
         ((x : Value) → move_at program fit verified h pc s st a.held ins at ≡ go x → (d : Tour) × Leads program fit verified t d × next x st d × K x st) → Follows program fit verified t next K (answer o at st)
     answer_runs (Ok x) go m next K done = record { is = done x m }
@@ -83,11 +83,11 @@ module _ (program : Program) (fit : IsFit program) (verified : IsVerified progra
       Follows program fit verified c (λ u st' d. At program fit verified h (suc pc) s st' d) (λ u st'. suc st'.world.ticks ≤ t) (tick at st)
   tick_runs h pc t s st c a at l q = by st.world.ticks refl
     where
-      by : (n : ℕ) → st.world.ticks ≡ n → Follows program fit verified c (λ u st' d. At program fit verified h (suc pc) s st' d) (λ u st'. suc st'.world.ticks ≤ t) (with_world (took n st.world) at st)
-      by zero e = record { is = traps program fit verified h pc s st c a i.Tick at l trap.Ticks (ap (λ n. ticking n (λ n. Runs (record (box_of h pc s st a.held) { ticks = n; frames = frame_of h (suc pc) s st.locals ∷ h.below }) (st.world.tree.fields h.at)) (trapped trap.Ticks at (box_of h pc s st a.held) (st.world.tree.fields h.at))) e) }
+      by : (n : ℕ) → st.world.ticks ≡ n → Follows program fit verified c (λ u st' d. At program fit verified h (suc pc) s st' d) (λ u st'. suc st'.world.ticks ≤ t) (with_world (after_tick n st.world) at st)
+      by zero e = record { is = traps program fit verified h pc s st c a i.Tick at l trap.Ticks (ap (λ n. ticking n (λ n. Runs (record (box_of h pc s st a.held) { ticks = n; frames = frame_of h (suc pc) s st.locals ∷ h.below }) (st.world.tree.fields h.at)) (trap_move trap.Ticks at (box_of h pc s st a.held) (st.world.tree.fields h.at))) e) }
       by (suc n) e =
           let r = runs_on program fit verified h pc s st c a i.Tick at l h (suc pc) s (record { locals = st.locals; world = record st.world { ticks = n } }) (st.world.tree.fields h.at)
-          (ap (λ n. ticking n (λ n. Runs (record (box_of h pc s st a.held) { ticks = n; frames = frame_of h (suc pc) s st.locals ∷ h.below }) (st.world.tree.fields h.at)) (trapped trap.Ticks at (box_of h pc s st a.held) (st.world.tree.fields h.at))) e)
+          (ap (λ n. ticking n (λ n. Runs (record (box_of h pc s st a.held) { ticks = n; frames = frame_of h (suc pc) s st.locals ∷ h.below }) (st.world.tree.fields h.at)) (trap_move trap.Ticks at (box_of h pc s st a.held) (st.world.tree.fields h.at))) e)
           (put_same st.world.tree h.at) refl refl refl in
           record { is = (r.0, r.1, r.2, subst (λ m. m ≤ t) e q) }
 
@@ -170,15 +170,15 @@ module _ (program : Program) (fit : IsFit program) (verified : IsVerified progra
   -- ---- maps
 
   put_then : (x k : Value) (s : List Value) (m : Value) (at : Span) (b : Box) (fields : Fields) (go : Value → List Value → Move) →
-      Moving (on_int (x ∷ k ∷ s) (λ value rest. on_int rest (λ key rest. answered (apply_row put_row (m ∷ v.Int key ∷ v.Int value ∷ [])) at b fields (λ y. go y rest)))) →
-      on_int (x ∷ k ∷ s) (λ value rest. on_int rest (λ key rest. answered (apply_row put_row (m ∷ v.Int key ∷ v.Int value ∷ [])) at b fields (λ y. go y rest))) ≡ answered (apply_row put_row (m ∷ k ∷ x ∷ [])) at b fields (λ y. go y s)
+      Moving (on_int (x ∷ k ∷ s) (λ value rest. on_int rest (λ key rest. answer_move (apply_row put_row (m ∷ v.Int key ∷ v.Int value ∷ [])) at b fields (λ y. go y rest)))) →
+      on_int (x ∷ k ∷ s) (λ value rest. on_int rest (λ key rest. answer_move (apply_row put_row (m ∷ v.Int key ∷ v.Int value ∷ [])) at b fields (λ y. go y rest))) ≡ answer_move (apply_row put_row (m ∷ k ∷ x ∷ [])) at b fields (λ y. go y s)
   put_then (v.Int n) (v.Int key) s m at b fields go h = refl
   put_then (v.Int n) _ s m at b fields go h = absurd h
   put_then _ k s m at b fields go h = absurd h
 
   cut_then : (k : Value) (s : List Value) (m : Value) (at : Span) (b : Box) (fields : Fields) (go : Value → List Value → Move) →
-      Moving (on_int (k ∷ s) (λ key rest. answered (apply_row cut_row (m ∷ v.Int key ∷ [])) at b fields (λ y. go y rest))) →
-      on_int (k ∷ s) (λ key rest. answered (apply_row cut_row (m ∷ v.Int key ∷ [])) at b fields (λ y. go y rest)) ≡ answered (apply_row cut_row (m ∷ k ∷ [])) at b fields (λ y. go y s)
+      Moving (on_int (k ∷ s) (λ key rest. answer_move (apply_row cut_row (m ∷ v.Int key ∷ [])) at b fields (λ y. go y rest))) →
+      on_int (k ∷ s) (λ key rest. answer_move (apply_row cut_row (m ∷ v.Int key ∷ [])) at b fields (λ y. go y rest)) ≡ answer_move (apply_row cut_row (m ∷ k ∷ [])) at b fields (λ y. go y s)
   cut_then (v.Int key) s m at b fields go h = refl
   cut_then _ s m at b fields go h = absurd h
 
@@ -190,7 +190,7 @@ module _ (program : Program) (fit : IsFit program) (verified : IsVerified progra
   put_local_runs h pc pc' t x k y s st c a at e l q =
       let go : Value → List Value → Move = λ z rest. Runs (box_of h (suc pc) rest (record { locals = slice_set st.locals x z; world = st.world }) a.held) (st.world.tree.fields h.at) in
       let m = moving program fit verified h pc (y ∷ k ∷ s) st c a (i.PutLocal x) at l in
-      let first = there_or st.locals x nothing (λ m. on_int (y ∷ k ∷ s) (λ value rest. on_int rest (λ key rest. answered (apply_row put_row (m ∷ v.Int key ∷ v.Int value ∷ [])) at (box_of h pc (y ∷ k ∷ s) st a.held) (st.world.tree.fields h.at) (λ z. go z rest)))) m in
+      let first = there_or st.locals x nothing (λ m. on_int (y ∷ k ∷ s) (λ value rest. on_int rest (λ key rest. answer_move (apply_row put_row (m ∷ v.Int key ∷ v.Int value ∷ [])) at (box_of h pc (y ∷ k ∷ s) st a.held) (st.world.tree.fields h.at) (λ z. go z rest)))) m in
       answer_then h pc (y ∷ k ∷ s) st c a (i.PutLocal x) at l (apply_row row_put (get_or st.locals x nothing ∷ k ∷ y ∷ [])) (λ z. go z s)
       (first ∙ put_then y k s (get_or st.locals x nothing) at (box_of h pc (y ∷ k ∷ s) st a.held) (st.world.tree.fields h.at) go (subst Moving first m))
       (Onward h pc' s) (Low t) (set_local x)
@@ -201,7 +201,7 @@ module _ (program : Program) (fit : IsFit program) (verified : IsVerified progra
   cut_local_runs h pc pc' t x k s st c a at e l q =
       let go : Value → List Value → Move = λ z rest. Runs (box_of h (suc pc) rest (record { locals = slice_set st.locals x z; world = st.world }) a.held) (st.world.tree.fields h.at) in
       let m = moving program fit verified h pc (k ∷ s) st c a (i.CutLocal x) at l in
-      let first = there_or st.locals x nothing (λ m. on_int (k ∷ s) (λ key rest. answered (apply_row cut_row (m ∷ v.Int key ∷ [])) at (box_of h pc (k ∷ s) st a.held) (st.world.tree.fields h.at) (λ z. go z rest))) m in
+      let first = there_or st.locals x nothing (λ m. on_int (k ∷ s) (λ key rest. answer_move (apply_row cut_row (m ∷ v.Int key ∷ [])) at (box_of h pc (k ∷ s) st a.held) (st.world.tree.fields h.at) (λ z. go z rest))) m in
       answer_then h pc (k ∷ s) st c a (i.CutLocal x) at l (apply_row row_cut (get_or st.locals x nothing ∷ k ∷ [])) (λ z. go z s)
       (first ∙ cut_then k s (get_or st.locals x nothing) at (box_of h pc (k ∷ s) st a.held) (st.world.tree.fields h.at) go (subst Moving first m))
       (Onward h pc' s) (Low t) (set_local x)
@@ -214,7 +214,7 @@ module _ (program : Program) (fit : IsFit program) (verified : IsVerified progra
       let fields = st.world.tree.fields h.at in
       let go : Value → List Value → Move = λ z rest. Runs (box_of h (suc pc) rest st a.held) (slice_set fields x z) in
       let m = moving program fit verified h pc (y ∷ k ∷ s) st c a (i.PutField x) at l in
-      let first = there_or fields x nothing (λ m. on_int (y ∷ k ∷ s) (λ value rest. on_int rest (λ key rest. answered (apply_row put_row (m ∷ v.Int key ∷ v.Int value ∷ [])) at (box_of h pc (y ∷ k ∷ s) st a.held) fields (λ z. go z rest)))) m in
+      let first = there_or fields x nothing (λ m. on_int (y ∷ k ∷ s) (λ value rest. on_int rest (λ key rest. answer_move (apply_row put_row (m ∷ v.Int key ∷ v.Int value ∷ [])) at (box_of h pc (y ∷ k ∷ s) st a.held) fields (λ z. go z rest)))) m in
       answer_then h pc (y ∷ k ∷ s) st c a (i.PutField x) at l (apply_row row_put (get_or fields x nothing ∷ k ∷ y ∷ [])) (λ z. go z s)
       (first ∙ put_then y k s (get_or fields x nothing) at (box_of h pc (y ∷ k ∷ s) st a.held) fields go (subst Moving first m))
       (Onward h pc' s) (Low t) (put_field x h.at)
@@ -227,7 +227,7 @@ module _ (program : Program) (fit : IsFit program) (verified : IsVerified progra
       let fields = st.world.tree.fields h.at in
       let go : Value → List Value → Move = λ z rest. Runs (box_of h (suc pc) rest st a.held) (slice_set fields x z) in
       let m = moving program fit verified h pc (k ∷ s) st c a (i.CutField x) at l in
-      let first = there_or fields x nothing (λ m. on_int (k ∷ s) (λ key rest. answered (apply_row cut_row (m ∷ v.Int key ∷ [])) at (box_of h pc (k ∷ s) st a.held) fields (λ z. go z rest))) m in
+      let first = there_or fields x nothing (λ m. on_int (k ∷ s) (λ key rest. answer_move (apply_row cut_row (m ∷ v.Int key ∷ [])) at (box_of h pc (k ∷ s) st a.held) fields (λ z. go z rest))) m in
       answer_then h pc (k ∷ s) st c a (i.CutField x) at l (apply_row row_cut (get_or fields x nothing ∷ k ∷ [])) (λ z. go z s)
       (first ∙ cut_then k s (get_or fields x nothing) at (box_of h pc (k ∷ s) st a.held) fields go (subst Moving first m))
       (Onward h pc' s) (Low t) (put_field x h.at)
@@ -255,7 +255,7 @@ module _ (program : Program) (fit : IsFit program) (verified : IsVerified progra
       kept = record st.world { messages = st.world.messages ++ record { label = label; value = y } ∷ [] }
 
       go : Bool → Move
-      go b = if b then Runs (box_of h (suc pc) s (record { locals = st.locals; world = kept }) a.held) (st.world.tree.fields h.at) else trapped trap.Sends at (box_of h pc (y ∷ s) st a.held) (st.world.tree.fields h.at)
+      go b = if b then Runs (box_of h (suc pc) s (record { locals = st.locals; world = kept }) a.held) (st.world.tree.fields h.at) else trap_move trap.Sends at (box_of h pc (y ∷ s) st a.held) (st.world.tree.fields h.at)
 
       is : move_at program fit verified h pc (y ∷ s) st a.held ins at ≡ go (nat_lt (length st.world.messages) MESSAGES)
       is = text_there program.texts label _ (moving program fit verified h pc (y ∷ s) st c a ins at l)
@@ -279,7 +279,7 @@ module _ (program : Program) (fit : IsFit program) (verified : IsVerified progra
       kept = record st.world { created = st.world.created ++ record { event = event; args = vs; generation = suc st.world.generation } ∷ [] }
 
       stop : TrapKind → Move
-      stop k = trapped k at (box_of h pc (pushed vs s) st a.held) (st.world.tree.fields h.at)
+      stop k = trap_move k at (box_of h pc (pushed vs s) st a.held) (st.world.tree.fields h.at)
 
       go : Bool → Bool → Move
       go b d = if b then stop trap.Generation else (if d then Runs (box_of h (suc pc) s (record { locals = st.locals; world = kept }) a.held) (st.world.tree.fields h.at) else stop trap.Spawns)
@@ -289,7 +289,7 @@ module _ (program : Program) (fit : IsFit program) (verified : IsVerified progra
 
       is : move_at program fit verified h pc (pushed vs s) st a.held ins at ≡ go (st.world.generation == GENERATION) (nat_lt (length st.world.created) SPAWNS)
       is =
-          ap (λ o. with_some o (λ (event : EventInfo). with_some (taken (length event.params) [] (pushed vs s)) made)) there
+          ap (λ o. with_some o (λ (event : EventInfo). with_some (taken_values (length event.params) [] (pushed vs s)) made)) there
           ∙ ap (λ o. with_some o made) (take_pushed (length info.params) vs s long)
 
       by : (b d : Bool) → (st.world.generation == GENERATION) ≡ b → nat_lt (length st.world.created) SPAWNS ≡ d → Follows program fit verified c (Onward h pc' s) (Low t) (with_world (if b then Err trap.Generation else if d then Ok kept else Err trap.Spawns) at st)
@@ -306,7 +306,7 @@ module _ (program : Program) (fit : IsFit program) (verified : IsVerified progra
       (d : Tour) × Leads program fit verified c d × At program fit verified (callee_of g h.at false h (suc pc) s st.locals) 0 [] (record { locals = first_locals callee vs; world = st.world }) d
   call_runs h pc g callee vs s st c there long a at l =
       steps_on program fit verified h pc (pushed vs s) st c a (i.Call g) at l (callee_of g h.at false h (suc pc) s st.locals) 0 [] (first_locals callee vs)
-      (ap (λ o. with_some o (λ (callee : Function). with_some (taken (length callee.args) [] (pushed vs s)) (made callee))) there
+      (ap (λ o. with_some o (λ (callee : Function). with_some (taken_values (length callee.args) [] (pushed vs s)) (made callee))) there
       ∙ ap (λ o. with_some o (made callee)) (take_pushed (length callee.args) vs s long))
     where
       made : Function → List Value × List Value → Move

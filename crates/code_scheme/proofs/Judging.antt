@@ -16,7 +16,7 @@ use Rattle.service_code.specs.declared.program.Program.{Program}
 use Rattle.service_verify.specs.declared.error.Rule.TheVariants as rule
 use Rattle.service_verify.specs.declared.point.Point.{Point}
 use Rattle.service_verify.specs.Points.{point_after}
-use Rattle.service_verify.specs.Rules.{found, must, judged_then, kind_eq, an_int, effect_of, next_of}
+use Rattle.service_verify.specs.Rules.{judged_item, must, judged_then, kind_eq, an_int, effect_of, next_of}
 use Rattle.code_scheme.specs.Heights.{tree_height, steps_height, last_height, phases_height}
 use Rattle.code_scheme.specs.Programs.{method_function}
 use Rattle.code_scheme.specs.Scheme.{Line, line, tree_code, steps_code, return_code, reply_code, phases_code}
@@ -165,7 +165,7 @@ module _ (program : Program) (number : ℕ) (function : Function) (ls : List Lin
         by : (o : Option Point) × (slice_get t n ≡ Some o) → (u : Table) × (arrival n p t ≡ Ok u) × Keeps u × ((m : ℕ) → slice_get t m ≡ Some (Some (P m)) → slice_get u m ≡ Some (Some (P m))) × (slice_get u n ≡ Some (Some (P n)))
         by (None, e) = (
           slice_set t n (Some p),
-          ap (λ o. found rule.Jump o (λ q. arrived_at n p q t)) e,
+          ap (λ o. judged_item rule.Jump o (λ q. arrived_at n p q t)) e,
           record {
             long = set_long t n (Some p) ∙ keeps.long;
             fixed = λ m q h. elim (set_cases t n m (Some p)) [
@@ -181,7 +181,7 @@ module _ (program : Program) (number : ℕ) (function : Function) (ls : List Lin
         )
         by (Some q, e) = (
           t,
-          ap (λ o. found rule.Jump o (λ q. arrived_at n p q t)) e ∙ agreed_same p q t (keeps.fixed n q e ∙ same),
+          ap (λ o. judged_item rule.Jump o (λ q. arrived_at n p q t)) e ∙ agreed_same p q t (keeps.fixed n q e ∙ same),
           keeps,
           (λ m h. h),
           e ∙ ap (λ q. Some (Some q)) (keeps.fixed n q e),
@@ -235,7 +235,7 @@ module _ (program : Program) (number : ℕ) (function : Function) (ls : List Lin
           let e : n + 1 ≡ suc n = omega arith in
           let later = judges rest (suc n) a.new (subst (λ m. StandsAt ls m rest) e has.1) a.keeps (after_one n l has.0 g.after t a before) in (
             later.0,
-            ap (λ o. visited_then n (found rule.Jump o (λ q. found rule.Jump q (λ p. judged_then (point_after program number function l.instr p) (λ after. arrivals (next_of l.instr n) after t)))) (λ u. judged_from program number function (suc n) (map (λ (l : Line). l.instr) rest) u)) here
+            ap (λ o. visited_then n (judged_item rule.Jump o (λ q. judged_item rule.Jump q (λ p. judged_then (point_after program number function l.instr p) (λ after. arrivals (next_of l.instr n) after t)))) (λ u. judged_from program number function (suc n) (map (λ (l : Line). l.instr) rest) u)) here
                 ∙ ap (λ o. visited_then n (judged_then o (λ after. arrivals (next_of l.instr n) after t)) (λ u. judged_from program number function (suc n) (map (λ (l : Line). l.instr) rest) u)) g.is
                 ∙ ap (λ o. visited_then n o (λ u. judged_from program number function (suc n) (map (λ (l : Line). l.instr) rest) u)) a.is
                 ∙ later.1,

@@ -5,7 +5,7 @@ use Rattle.wave_base.specs.declared.path.Path.{Path}
 use Rattle.wave_base.specs.declared.span.Span.{Span}
 use Rattle.wave_base.specs.declared.value.Value.{Value}
 use Rattle.wave_base.specs.declared.value.Value.TheVariants as v
-use Rattle.resolved_service.specs.Jobs.{replied}
+use Rattle.resolved_service.specs.Jobs.{outcome_of_reply}
 use Rattle.resolved_service.specs.Meaning as m
 use Rattle.resolved_service.specs.Meaning.{State, Leave, Outcome, Done, Trapped, Left, Act, and_then, choose, value, while_turns, effect, effects, else_effect, maybe_value}
 use Rattle.resolved_service.specs.Steps.{Step, SetLocal, SetField, PutLocal, PutField, CutLocal, CutField, If, While, For, Require, Send, Spawn, Do, Return, Finish, Steps, no_steps, step, no_else, otherwise, is_end, surely_ends}
@@ -87,7 +87,7 @@ module _ (program : Program) (fit : IsFit program) (verified : IsVerified progra
   -- where the rest is left out: a method is about to return, and an event is over
   abbrev pub Leaving : Within → Here → ℕ → List Value → Leave → State → Tour → Type 0
   Leaving (InMethod result) h t s (m.Returned r) st d = AtReturn h (option_to_list r ++ s) st d × Returned t result r st
-  Leaving (InEvent reply) h t s (m.Finished r) st d = IsOver (record { outcome = replied r; messages = st.world.messages; created = st.world.created }) st.world d
+  Leaving (InEvent reply) h t s (m.Finished r) st d = IsOver (record { outcome = outcome_of_reply r; messages = st.world.messages; created = st.world.created }) st.world d
   Leaving _ h t s l st d = ⊥
 
   pub leaving_lower : (w : Within) (h : Here) (t t' : ℕ) (s : List Value) → t ≤ t' → (l : Leave) (st : State) (d : Tour) → Leaving w h t s l st d → Leaving w h t' s l st d

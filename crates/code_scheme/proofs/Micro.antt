@@ -11,7 +11,7 @@ use Rattle.service_verify.specs.Fit.{IsFit}
 use Rattle.service_verify.specs.Points.{IsVerified}
 use Rattle.service_verify.specs.Standing.{HasFields, HasLevels, HasTree, RunsAt, LeavesAt, MovesOn}
 use Rattle.service_verify.specs.Steps.{Move, Runs, Paused, Lost, one_step, is_held}
-use Rattle.service_verify.specs.Tours.{Fields, fields_above, Tour, tree_with, into, halted}
+use Rattle.service_verify.specs.Tours.{Fields, fields_above, Tour, tree_with, into, tour_at_pause}
 use Rattle.service_verify.proofs.Stepping.{step_moves}
 use Rattle.service_verify.proofs.Leveled.{above_has}
 use Rattle.service_verify.proofs.Touring.{put_has}
@@ -19,7 +19,7 @@ use Rattle.service_verify.proofs.Touring.{put_has}
 -- what an instruction leaves to the tour, whose tree has the fields in hand at its context
 abbrev pub resumed : Tour → Move → Tour
 resumed t (Runs b fields) = record { box = b; tree = tree_with t fields; entered = t.entered; segments = t.segments; result = t.result }
-resumed t (Paused b fields why) = halted t b fields why
+resumed t (Paused b fields why) = tour_at_pause t b fields why
 resumed t Lost = t
 
 module _ (program : Program) where
@@ -94,7 +94,7 @@ module _ (program : Program) (fit : IsFit program) (verified : IsVerified progra
   moved_alive t a (Paused b fields (pause.Down s)) h e = into_alive t b fields (is_held t.box.held b.path) _ (suc a.calls) h.1.0 (tree_has t a fields h.0)
   moved_alive t a (Paused b fields pause.Back) h e = back a.calls h.1
     where
-      back : (n : ℕ) → LeavesAt program a.path n b pause.Back → Alive (halted t b fields pause.Back)
+      back : (n : ℕ) → LeavesAt program a.path n b pause.Back → Alive (tour_at_pause t b fields pause.Back)
       back zero l = absurd l
       back (suc m) l = record { path = parent_of a.path; calls = m; box = l.0; tree = tree_has t a fields h.0 }
   moved_alive t a (Paused b fields (pause.Over r)) h e = cc

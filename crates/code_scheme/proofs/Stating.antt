@@ -20,7 +20,7 @@ use Rattle.service_code.specs.declared.program.Function.{Function}
 use Rattle.service_code.specs.declared.program.Program.{Program}
 use Rattle.service_verify.specs.declared.error.Rule.TheVariants as rule
 use Rattle.service_verify.specs.declared.point.Point.{Point}
-use Rattle.service_verify.specs.Rules.{found, must, operands, any, an_int, a_bool, effect_of, left_below, ends, class_after, next_of}
+use Rattle.service_verify.specs.Rules.{judged_item, must, operands, any, an_int, a_bool, effect_of, left_below, ends, class_after, next_of}
 use Rattle.code_scheme.specs.Heights.{one_if, tree_height, trees_height, maybe_height, step_height, steps_height}
 use Rattle.code_scheme.specs.Programs.{method_function}
 use Rattle.code_scheme.specs.Scheme.{Line, line, gives_in, leaves_value, pop_code, finish_instr, behind, while_code, test_code, turn_code, loop_at, block_at, tree_code, trees_code, two_code, maybe_code, step_code, steps_code}
@@ -89,7 +89,7 @@ module _ (program : Program) (number : ℕ) (function : Function) (ls : List Lin
 
     pub reply_effect : function.is_event ≡ true → (kind : Kind) → function.result ≡ Some kind → effect_of program number function c.0 i.Reply ≡ Ok (record { takes = Some kind ∷ []; gives = None })
     unfolding effect_of
-    reply_effect event kind is = ap (λ b. must rule.Call b (found rule.Kind function.result (λ kind. takes_only (Some kind ∷ [])))) event ∙ ap (λ o. found rule.Kind o (λ kind. takes_only (Some kind ∷ []))) is
+    reply_effect event kind is = ap (λ b. must rule.Call b (judged_item rule.Kind function.result (λ kind. takes_only (Some kind ∷ [])))) event ∙ ap (λ o. judged_item rule.Kind o (λ kind. takes_only (Some kind ∷ []))) is
 
     pub end_effect : function.is_event ≡ true → function.result ≡ None → effect_of program number function c.0 i.End ≡ Ok (record { takes = []; gives = None })
     unfolding effect_of
@@ -113,27 +113,27 @@ module _ (program : Program) (number : ℕ) (function : Function) (ls : List Lin
 
     store_effect : (x : ℕ) (kind : Kind) → slice_get function.locals x ≡ Some kind → effect_of program number function c.0 (i.Store x) ≡ Ok (record { takes = Some kind ∷ []; gives = None })
     unfolding effect_of
-    store_effect x kind there = ap (λ o. found rule.Field o (λ kind. Ok (record { takes = Some kind ∷ []; gives = None }))) there
+    store_effect x kind there = ap (λ o. judged_item rule.Field o (λ kind. Ok (record { takes = Some kind ∷ []; gives = None }))) there
 
     set_effect : (x : ℕ) (kind : Kind) → slice_get (kinds_of_class program.shape c.0) x ≡ Some kind → effect_of program number function c.0 (i.SetField x) ≡ Ok (record { takes = Some kind ∷ []; gives = None })
     unfolding effect_of
-    set_effect x kind there = ap (λ o. found rule.Field o (λ kind. Ok (record { takes = Some kind ∷ []; gives = None }))) there
+    set_effect x kind there = ap (λ o. judged_item rule.Field o (λ kind. Ok (record { takes = Some kind ∷ []; gives = None }))) there
 
     put_local_effect : (x : ℕ) → slice_get function.locals x ≡ Some k.Map → effect_of program number function c.0 (i.PutLocal x) ≡ Ok (record { takes = an_int ∷ an_int ∷ []; gives = None })
     unfolding effect_of
-    put_local_effect x there = ap (λ o. found rule.Field o (takes_for_map (an_int ∷ an_int ∷ []))) there
+    put_local_effect x there = ap (λ o. judged_item rule.Field o (takes_for_map (an_int ∷ an_int ∷ []))) there
 
     put_field_effect : (x : ℕ) → slice_get (kinds_of_class program.shape c.0) x ≡ Some k.Map → effect_of program number function c.0 (i.PutField x) ≡ Ok (record { takes = an_int ∷ an_int ∷ []; gives = None })
     unfolding effect_of
-    put_field_effect x there = ap (λ o. found rule.Field o (takes_for_map (an_int ∷ an_int ∷ []))) there
+    put_field_effect x there = ap (λ o. judged_item rule.Field o (takes_for_map (an_int ∷ an_int ∷ []))) there
 
     cut_local_effect : (x : ℕ) → slice_get function.locals x ≡ Some k.Map → effect_of program number function c.0 (i.CutLocal x) ≡ Ok (record { takes = an_int ∷ []; gives = None })
     unfolding effect_of
-    cut_local_effect x there = ap (λ o. found rule.Field o (takes_for_map (an_int ∷ []))) there
+    cut_local_effect x there = ap (λ o. judged_item rule.Field o (takes_for_map (an_int ∷ []))) there
 
     cut_field_effect : (x : ℕ) → slice_get (kinds_of_class program.shape c.0) x ≡ Some k.Map → effect_of program number function c.0 (i.CutField x) ≡ Ok (record { takes = an_int ∷ []; gives = None })
     unfolding effect_of
-    cut_field_effect x there = ap (λ o. found rule.Field o (takes_for_map (an_int ∷ []))) there
+    cut_field_effect x there = ap (λ o. judged_item rule.Field o (takes_for_map (an_int ∷ []))) there
 
     require_effect : effect_of program number function c.0 i.Require ≡ Ok (record { takes = a_bool ∷ []; gives = None })
     unfolding effect_of
@@ -145,11 +145,11 @@ module _ (program : Program) (number : ℕ) (function : Function) (ls : List Lin
 
     send_effect : (t : Text) → list_any (same_bytes t) program.texts ≡ true → effect_of program number function c.0 (i.Send (place_of_text program.texts t)) ≡ Ok (record { takes = any ∷ []; gives = None })
     unfolding effect_of
-    send_effect t h = ap (λ o. found rule.Field o (λ t. Ok (record { takes = any ∷ []; gives = None }))) (text_found program.texts t h)
+    send_effect t h = ap (λ o. judged_item rule.Field o (λ t. Ok (record { takes = any ∷ []; gives = None }))) (text_found program.texts t h)
 
     spawn_effect : (event : ℕ) (info : EventInfo) → slice_get program.shape.events event ≡ Some info → effect_of program number function c.0 (i.Spawn event) ≡ Ok (record { takes = operands info.params; gives = None })
     unfolding effect_of
-    spawn_effect event info there = ap (λ o. found rule.Call o (λ (e : EventInfo). Ok (record { takes = operands e.params; gives = None }))) there
+    spawn_effect event info there = ap (λ o. judged_item rule.Call o (λ (e : EventInfo). Ok (record { takes = operands e.params; gives = None }))) there
 
     gives_some : {class m : ℕ} {result : Option Kind} → IsMethod methods class m result → gives_in (slice_get methods m) ≡ is_some result
     gives_some is = ap gives_in is.is_there ∙ ap is_some is.result_is

@@ -9,7 +9,7 @@ use Rattle.wave_base.specs.declared.value.Value.{Value}
 use Rattle.wave_base.specs.declared.value.Value.TheVariants as v
 use Rattle.value_ops.specs.Operators.{takes_of, apply_row}
 use Rattle.resolved_service.specs.declared.service.Method.{Method}
-use Rattle.resolved_service.specs.Meaning.{State, Outcome, Done, Trapped, Left, Act, and_then, give, answer, tick, enter_at, back, choose, worth, value, values, with_blanks, called, ◌>>=◌, ◌>>◌}
+use Rattle.resolved_service.specs.Meaning.{State, Outcome, Done, Trapped, Left, Act, and_then, give, answer, tick, enter_at, back, choose, worth, value, values, with_blanks, call_act, ◌>>=◌, ◌>>◌}
 use Rattle.resolved_service.specs.View.{Tree, Const, Local, Field, Above, Op, And, Or, Call, Child, Trees, no_trees, tree}
 use Rattle.resolved_service.specs.World as world
 use Rattle.resolved_service.specs.World.{World, nothing, is_true, child}
@@ -66,7 +66,7 @@ module _ (program : Program) (fit : IsFit program) (verified : IsVerified progra
   CallsFollow n =
       (m : ℕ) (method : Method) → slice_get methods m ≡ Some method → (p : Path) (vs : List Value) → (down : Bool) (g : Here) (pc : ℕ) (s : List Value) → IsCaller down p g.at → (st : State) (t : ℕ) → t ≤ n → suc st.world.ticks ≤ t → (c : Tour) →
       At program fit verified (callee_of m p down g pc s st.locals) 0 [] (record { locals = with_blanks vs method.locals; world = st.world }) c →
-      Follows program fit verified c (Back down g pc s) (Returned t method.result) (called methods n m p vs st)
+      Follows program fit verified c (Back down g pc s) (Returned t method.result) (call_act methods n m p vs st)
 
   abbrev pub OnTop : Here → ℕ → List Value → Value → State → Tour → Type 0
   OnTop h pc s x st d = At program fit verified h pc (x ∷ s) st d
@@ -156,21 +156,21 @@ module _ (program : Program) (fit : IsFit program) (verified : IsVerified progra
     begun h method vs w c a = a
 
     own_runs : (h : Here) (pc t m : ℕ) (method : Method) (vs s : List Value) (st : State) (c : Tour) → slice_get methods m ≡ Some method → length vs ≡ length method.params → At program fit verified h pc (pushed vs s) st c → (at : Span) → IsLine program fit verified h.fn pc (i.Call m) at → t ≤ n → suc st.world.ticks ≤ t →
-        Follows program fit verified c (Back false h (suc pc) s) (Returned t method.result) (called methods n m h.at vs st)
+        Follows program fit verified c (Back false h (suc pc) s) (Returned t method.result) (call_act methods n m h.at vs st)
     own_runs h pc t m method vs s st c is long a at l le q =
         let r = call_runs program fit verified h pc m (method_function methods program.texts method) vs s st c (made.by m method is) (sym long) a at l in
-        lead_in program fit verified c r.0 (Back false h (suc pc) s) (Returned t method.result) (called methods n m h.at vs st) r.1
+        lead_in program fit verified c r.0 (Back false h (suc pc) s) (Returned t method.result) (call_act methods n m h.at vs st) r.1
         (calls m method is h.at vs false h (suc pc) s refl st t le q r.0 (begun (callee_of m h.at false h (suc pc) s st.locals) method vs st.world r.0 r.2))
 
     -- a call's own part, behind its arguments
     pub own_value : (h : Here) (pc t class m : ℕ) (result : Option Kind) (at : Span) (s : List Value) (c : Tour) (ca : List Line) (ov : Outcome (List Value)) → t ≤ n → (is : IsMethod methods class m result) →
         HasAt program fit verified h.fn pc (ca ++ line i.Tick at ∷ line (i.Call m) at ∷ []) → Follows program fit verified c (OnTops h (pc + length ca) s) (Counted t is.method.params) ov →
-        Follows program fit verified c (LeftOn h (pc + length (ca ++ line i.Tick at ∷ line (i.Call m) at ∷ [])) s result) (Low t) (and_then ov (λ given. tick at >> (called methods n m h.at given >>= (λ r. give (worth r)))))
+        Follows program fit verified c (LeftOn h (pc + length (ca ++ line i.Tick at ∷ line (i.Call m) at ∷ [])) s result) (Low t) (and_then ov (λ given. tick at >> (call_act methods n m h.at given >>= (λ r. give (worth r)))))
     own_value h pc t class m result at s c ca ov le is has rv =
-        bind program fit verified c (OnTops h pa s) (Counted t is.method.params) (LeftOn h end s result) (Low t) ov (λ given. tick at >> (called methods n m h.at given >>= (λ r. give (worth r)))) rv (λ vs st d a known.
-        bind program fit verified d (λ u st' d'. At program fit verified h (suc pa) (pushed vs s) st' d') (λ u st'. suc st'.world.ticks ≤ t) (LeftOn h end s result) (Low t) (tick at st) (λ u. called methods n m h.at vs >>= (λ r. give (worth r)))
+        bind program fit verified c (OnTops h pa s) (Counted t is.method.params) (LeftOn h end s result) (Low t) ov (λ given. tick at >> (call_act methods n m h.at given >>= (λ r. give (worth r)))) rv (λ vs st d a known.
+        bind program fit verified d (λ u st' d'. At program fit verified h (suc pa) (pushed vs s) st' d') (λ u st'. suc st'.world.ticks ≤ t) (LeftOn h end s result) (Low t) (tick at st) (λ u. call_act methods n m h.at vs >>= (λ r. give (worth r)))
         (tick_runs program fit verified h pa t (pushed vs s) st d a at tail.0 known.0) (λ u st1 d1 a1 q1.
-        bind program fit verified d1 (Back false h (suc (pa + 1)) s) (Returned t is.method.result) (LeftOn h end s result) (Low t) (called methods n m h.at vs st1) (λ r. give (worth r))
+        bind program fit verified d1 (Back false h (suc (pa + 1)) s) (Returned t is.method.result) (LeftOn h end s result) (Low t) (call_act methods n m h.at vs st1) (λ r. give (worth r))
         (own_runs h (pa + 1) t m is.method vs s st1 d1 is.is_there known.1 (place_is program fit verified h (suc pa) (pa + 1) (pushed vs s) st1 d1 (next pa) a1) at tail.1.0 le q1) (λ r st2 d2 a2 k2.
         done program fit verified d2 (LeftOn h end s result) (Low t) (worth r) st2
         (subst (λ ss. At program fit verified h end ss st2 d2) (left_is result r s (subst (λ o. Answers o r) is.result_is k2.1)) (place_is program fit verified h (suc (pa + 1)) end (option_to_list r ++ s) st2 d2 len a2)) k2.0)))
@@ -188,15 +188,15 @@ module _ (program : Program) (fit : IsFit program) (verified : IsVerified progra
         len = omega (arith, length-append ca (line i.Tick at ∷ line (i.Call m) at ∷ []))
 
     child_runs : (h : Here) (pc t class m : ℕ) (method : Method) (k : Value) (vs s : List Value) (st : State) (c : Tour) → slice_get methods m ≡ Some method → length vs ≡ length method.params → At program fit verified h pc (pushed vs (k ∷ s)) st c → (at : Span) → IsLine program fit verified h.fn pc (i.CallDown (record { 0 = class }) m) at → t ≤ n → suc st.world.ticks ≤ t →
-        Follows program fit verified c (λ x st' d. At program fit verified h (suc pc) (left_on method.result x s) st' d) (Low t) (and_then (enter_at (child h.at class k) at st) (λ u. called methods n m (child h.at class k) vs >>= (λ r. back >> give (worth r))))
+        Follows program fit verified c (λ x st' d. At program fit verified h (suc pc) (left_on method.result x s) st' d) (Low t) (and_then (enter_at (child h.at class k) at st) (λ u. call_act methods n m (child h.at class k) vs >>= (λ r. back >> give (worth r))))
     child_runs h pc t class m method k vs s st c is long a at l le q =
-        bind program fit verified c (λ u st' d. At program fit verified inner 0 [] (record { locals = first_locals (method_function methods program.texts method) vs; world = st'.world }) d) (λ u st'. (st'.locals ≡ st.locals) × (st'.world.ticks ≡ st.world.ticks)) after (Low t) (enter_at p at st) (λ u. called methods n m p vs >>= (λ r. back >> give (worth r)))
+        bind program fit verified c (λ u st' d. At program fit verified inner 0 [] (record { locals = first_locals (method_function methods program.texts method) vs; world = st'.world }) d) (λ u st'. (st'.locals ≡ st.locals) × (st'.world.ticks ≡ st.world.ticks)) after (Low t) (enter_at p at st) (λ u. call_act methods n m p vs >>= (λ r. back >> give (worth r)))
         (down_runs program fit verified h pc class m (method_function methods program.texts method) k vs s st c (made.by m method is) (sym long) a at l) (λ u st1 d1 a1 k1.
-        bind program fit verified d1 (Back true h (suc pc) s) (Returned t method.result) after (Low t) (called methods n m p vs st1) (λ r. back >> give (worth r))
+        bind program fit verified d1 (Back true h (suc pc) s) (Returned t method.result) after (Low t) (call_act methods n m p vs st1) (λ r. back >> give (worth r))
         (calls m method is p vs true h (suc pc) s (record { class = record { 0 = class }; key = world.key_of k }, refl) st1 t le (subst (λ x. suc x ≤ t) (sym k1.1) q) d1
         (subst (λ ls. At program fit verified (callee_of m p true h (suc pc) s ls) 0 [] (record { locals = with_blanks vs method.locals; world = st1.world }) d1) (sym k1.0) (begun inner method vs st1.world d1 a1)))
         (λ r st2 d2 a2 k2.
-        done program fit verified d2 after (Low t) (worth r) (record { locals = st2.locals; world = world.changed st2.world }) (subst (λ ss. At program fit verified h (suc pc) ss (record { locals = st2.locals; world = world.changed st2.world }) d2) (left_is method.result r s k2.1) a2) k2.0))
+        done program fit verified d2 after (Low t) (worth r) (record { locals = st2.locals; world = world.after_change st2.world }) (subst (λ ss. At program fit verified h (suc pc) ss (record { locals = st2.locals; world = world.after_change st2.world }) d2) (left_is method.result r s k2.1) a2) k2.0))
       where
         p : Path
         p = child h.at class k
@@ -211,18 +211,18 @@ module _ (program : Program) (fit : IsFit program) (verified : IsVerified progra
         HasAt program fit verified h.fn pc (ck ++ (ca ++ line i.Tick at ∷ line (i.CallDown (record { 0 = class }) m) at ∷ [])) → Follows program fit verified c (OnTop h (pc + length ck) s) (Low t) ok →
         ((k : Value) (st : State) (d : Tour) → st.world.ticks ≤ t → At program fit verified h (pc + length ck) (k ∷ s) st d → Follows program fit verified d (OnTops h (pc + length ck + length ca) (k ∷ s)) (Counted t is.method.params) (fv st)) →
         Follows program fit verified c (LeftOn h (pc + length (ck ++ (ca ++ line i.Tick at ∷ line (i.CallDown (record { 0 = class }) m) at ∷ []))) s result) (Low t)
-        (and_then ok (λ k. fv >>= (λ given. tick at >> (enter_at (child h.at class k) at >> (called methods n m (child h.at class k) given >>= (λ r. back >> give (worth r)))))))
+        (and_then ok (λ k. fv >>= (λ given. tick at >> (enter_at (child h.at class k) at >> (call_act methods n m (child h.at class k) given >>= (λ r. back >> give (worth r)))))))
     child_value h pc t class m result at s c ck ca ok fv le is has rk rv =
         bind program fit verified c (OnTop h pk s) (Low t) (LeftOn h end s result) (Low t) ok (λ k. fv >>= rest k) rk (λ k st d a q.
         bind program fit verified d (OnTops h pa (k ∷ s)) (Counted t is.method.params) (LeftOn h end s result) (Low t) (fv st) (rest k) (rv k st d q a) (λ vs st1 d1 a1 k1.
-        bind program fit verified d1 (λ u st' d'. At program fit verified h (suc pa) (pushed vs (k ∷ s)) st' d') (λ u st'. suc st'.world.ticks ≤ t) (LeftOn h end s result) (Low t) (tick at st1) (λ u. enter_at (child h.at class k) at >> (called methods n m (child h.at class k) vs >>= (λ r. back >> give (worth r))))
+        bind program fit verified d1 (λ u st' d'. At program fit verified h (suc pa) (pushed vs (k ∷ s)) st' d') (λ u st'. suc st'.world.ticks ≤ t) (LeftOn h end s result) (Low t) (tick at st1) (λ u. enter_at (child h.at class k) at >> (call_act methods n m (child h.at class k) vs >>= (λ r. back >> give (worth r))))
         (tick_runs program fit verified h pa t (pushed vs (k ∷ s)) st1 d1 a1 at tail.0 k1.0) (λ u st2 d2 a2 q2.
-        ends program fit verified d2 (λ x st' d. At program fit verified h (suc (pa + 1)) (left_on is.method.result x s) st' d) (Low t) (LeftOn h end s result) (Low t) ((enter_at (child h.at class k) at >> (called methods n m (child h.at class k) vs >>= (λ r. back >> give (worth r)))) st2)
+        ends program fit verified d2 (λ x st' d. At program fit verified h (suc (pa + 1)) (left_on is.method.result x s) st' d) (Low t) (LeftOn h end s result) (Low t) ((enter_at (child h.at class k) at >> (call_act methods n m (child h.at class k) vs >>= (λ r. back >> give (worth r)))) st2)
         (child_runs h (pa + 1) t class m is.method k vs s st2 d2 is.is_there k1.1 (place_is program fit verified h (suc pa) (pa + 1) (pushed vs (k ∷ s)) st2 d2 (next pa) a2) at tail.1.0 le q2)
         (λ x st3 d3 a3 q3. (subst (λ o. At program fit verified h end (left_on o x s) st3 d3) is.result_is (place_is program fit verified h (suc (pa + 1)) end (left_on is.method.result x s) st3 d3 len a3), q3)))))
       where
         rest : Value → List Value → Act Value
-        rest k given = tick at >> (enter_at (child h.at class k) at >> (called methods n m (child h.at class k) given >>= (λ r. back >> give (worth r))))
+        rest k given = tick at >> (enter_at (child h.at class k) at >> (call_act methods n m (child h.at class k) given >>= (λ r. back >> give (worth r))))
 
         pk : ℕ
         pk = pc + length ck
@@ -242,7 +242,7 @@ module _ (program : Program) (fit : IsFit program) (verified : IsVerified progra
     module _ (limit : ℕ) (locals : List Kind) (class : ℕ) where
       mutual
         pub value_runs : (h : Here) (e : Tree) (kind : Kind) → HasKind program.shape methods limit locals class e kind → (t pc : ℕ) (s : List Value) (st : State) (c : Tour) → t ≤ n → st.world.ticks ≤ t → HasAt program fit verified h.fn pc (tree_code methods program.texts pc e) → At program fit verified h pc s st c →
-            Follows program fit verified c (OnTop h (pc + length (tree_code methods program.texts pc e)) s) (Low t) (value (called methods n) h.at e st)
+            Follows program fit verified c (OnTop h (pc + length (tree_code methods program.texts pc e)) s) (Low t) (value (call_act methods n) h.at e st)
         value_runs h (Const at (v.Int x)) kind typed t pc s st c le q has a = push_runs program fit verified h pc _ s st c a (i.PushInt x) at has.0 (v.Int x) (Low t) (next pc) refl q
         value_runs h (Const at (v.Bool x)) kind typed t pc s st c le q has a = push_runs program fit verified h pc _ s st c a (i.PushBool x) at has.0 (v.Bool x) (Low t) (next pc) refl q
         value_runs h (Const at (v.Str x)) kind typed t pc s st c le q has a = text_runs program fit verified h pc _ t x s st c a at (next pc) has.0 q
@@ -255,35 +255,35 @@ module _ (program : Program) (fit : IsFit program) (verified : IsVerified progra
         value_runs h (Op at r args) kind typed t pc s st c le q has a =
             let ca = trees_code methods program.texts pc args in
             let len : suc (pc + length ca) ≡ pc + length (ca ++ line (i.Op r) at ∷ []) = omega (arith, length-append ca (line (i.Op r) at ∷ [])) in
-            bind program fit verified c (OnTops h (pc + length ca) s) (Counted t (takes_of r)) (OnTop h (pc + length (ca ++ line (i.Op r) at ∷ [])) s) (Low t) (values (called methods n) h.at args st) (λ vs. answer (apply_row r vs) at)
+            bind program fit verified c (OnTops h (pc + length ca) s) (Counted t (takes_of r)) (OnTop h (pc + length (ca ++ line (i.Op r) at ∷ [])) s) (Low t) (values (call_act methods n) h.at args st) (λ vs. answer (apply_row r vs) at)
             (values_run h args (takes_of r) typed.2 t pc s st c le q (has_front program fit verified h.fn pc ca _ has) a)
             (λ vs st1 d a1 k1. row_runs program fit verified h (pc + length ca) _ t r vs s st1 d a1 at len (sym k1.1) (has_back program fit verified h.fn pc ca _ has).0 k1.0)
         value_runs h (And at x y) kind typed t pc s st c le q has a =
             let ca = tree_code methods program.texts pc x in
             let hb = (has_back program fit verified h.fn pc ca _ has).1 in
-            and_runs h pc t at s c ca (tree_code methods program.texts (pc + length ca + 1) y) (value (called methods n) h.at x st) (value (called methods n) h.at y) has
+            and_runs h pc t at s c ca (tree_code methods program.texts (pc + length ca + 1) y) (value (call_act methods n) h.at x st) (value (call_act methods n) h.at y) has
             (value_runs h x k.Bool typed.1 t pc s st c le q (has_front program fit verified h.fn pc ca _ has) a)
             (λ st1 d q1 a1. value_runs h y k.Bool typed.2 t (pc + length ca + 1) s st1 d le q1 (has_front program fit verified h.fn (pc + length ca + 1) _ _ hb) a1)
         value_runs h (Or at x y) kind typed t pc s st c le q has a =
             let ca = tree_code methods program.texts pc x in
             let hb = (has_back program fit verified h.fn pc ca _ has).1.1.1 in
             let e : pc + length ca + 1 + 1 + 1 ≡ pc + length ca + 3 = omega arith in
-            or_runs h pc t at s c ca (tree_code methods program.texts (pc + length ca + 3) y) (value (called methods n) h.at x st) (value (called methods n) h.at y) has
+            or_runs h pc t at s c ca (tree_code methods program.texts (pc + length ca + 3) y) (value (call_act methods n) h.at x st) (value (call_act methods n) h.at y) has
             (value_runs h x k.Bool typed.1 t pc s st c le q (has_front program fit verified h.fn pc ca _ has) a)
             (λ st1 d q1 a1. value_runs h y k.Bool typed.2 t (pc + length ca + 3) s st1 d le q1 (subst (λ m. HasAt program fit verified h.fn m (tree_code methods program.texts (pc + length ca + 3) y)) e hb) a1)
         value_runs h (Call at m args) kind typed t pc s st c le q has a =
             let ca = trees_code methods program.texts pc args in
-            own_value h pc t class m (Some kind) at s c ca (values (called methods n) h.at args st) le typed.1.0 has
+            own_value h pc t class m (Some kind) at s c ca (values (call_act methods n) h.at args st) le typed.1.0 has
             (values_run h args typed.1.0.method.params typed.1.1 t pc s st c le q (has_front program fit verified h.fn pc ca _ has) a)
         value_runs h (Child at cls m key args) kind typed t pc s st c le q has a =
             let ck = tree_code methods program.texts pc key in
             let ca = trees_code methods program.texts (pc + length ck) args in
-            child_value h pc t cls m (Some kind) at s c ck ca (value (called methods n) h.at key st) (values (called methods n) h.at args) le typed.2.0 has
+            child_value h pc t cls m (Some kind) at s c ck ca (value (call_act methods n) h.at key st) (values (call_act methods n) h.at args) le typed.2.0 has
             (value_runs h key k.Int typed.1 t pc s st c le q (has_front program fit verified h.fn pc ck _ has) a)
             (λ x st1 d q1 a1. values_run h args typed.2.0.method.params typed.2.1 t (pc + length ck) (x ∷ s) st1 d le q1 (has_front program fit verified h.fn (pc + length ck) ca _ (has_back program fit verified h.fn pc ck _ has)) a1)
 
         pub values_run : (h : Here) (args : Trees) (kinds : List Kind) → HaveKinds program.shape methods limit locals class args kinds → (t pc : ℕ) (s : List Value) (st : State) (c : Tour) → t ≤ n → st.world.ticks ≤ t → HasAt program fit verified h.fn pc (trees_code methods program.texts pc args) → At program fit verified h pc s st c →
-            Follows program fit verified c (OnTops h (pc + length (trees_code methods program.texts pc args)) s) (Counted t kinds) (values (called methods n) h.at args st)
+            Follows program fit verified c (OnTops h (pc + length (trees_code methods program.texts pc args)) s) (Counted t kinds) (values (call_act methods n) h.at args st)
         values_run h no_trees [] typed t pc s st c le q has a = let e : pc ≡ pc + 0 = omega arith in done program fit verified c (OnTops h (pc + 0) s) (Counted t []) [] st (place_is program fit verified h pc (pc + 0) s st c e a) (q, refl)
         values_run h no_trees (kind ∷ kinds) typed t pc s st c le q has a = absurd typed
         values_run h (tree e es) [] typed t pc s st c le q has a = absurd typed
@@ -291,8 +291,8 @@ module _ (program : Program) (fit : IsFit program) (verified : IsVerified progra
             let ca = tree_code methods program.texts pc e in
             let cb = trees_code methods program.texts (pc + length ca) es in
             let len : pc + length ca + length cb ≡ pc + length (ca ++ cb) = omega (arith, length-append ca cb) in
-            bind program fit verified c (OnTop h (pc + length ca) s) (Low t) (OnTops h (pc + length (ca ++ cb)) s) (Counted t (kind ∷ kinds)) (value (called methods n) h.at e st) (λ x. values (called methods n) h.at es >>= (λ xs. give (x ∷ xs)))
+            bind program fit verified c (OnTop h (pc + length ca) s) (Low t) (OnTops h (pc + length (ca ++ cb)) s) (Counted t (kind ∷ kinds)) (value (call_act methods n) h.at e st) (λ x. values (call_act methods n) h.at es >>= (λ xs. give (x ∷ xs)))
             (value_runs h e kind typed.0 t pc s st c le q (has_front program fit verified h.fn pc ca _ has) a)
-            (λ x st1 d a1 q1. bind program fit verified d (OnTops h (pc + length ca + length cb) (x ∷ s)) (Counted t kinds) (OnTops h (pc + length (ca ++ cb)) s) (Counted t (kind ∷ kinds)) (values (called methods n) h.at es st1) (λ xs. give (x ∷ xs))
+            (λ x st1 d a1 q1. bind program fit verified d (OnTops h (pc + length ca + length cb) (x ∷ s)) (Counted t kinds) (OnTops h (pc + length (ca ++ cb)) s) (Counted t (kind ∷ kinds)) (values (call_act methods n) h.at es st1) (λ xs. give (x ∷ xs))
             (values_run h es kinds typed.1 t (pc + length ca) (x ∷ s) st1 d le q1 (has_back program fit verified h.fn pc ca cb has) a1)
             (λ xs st2 d2 a2 k2. done program fit verified d2 (OnTops h (pc + length (ca ++ cb)) s) (Counted t (kind ∷ kinds)) (x ∷ xs) st2 (place_is program fit verified h _ _ (pushed xs (x ∷ s)) st2 d2 len a2) (k2.0, ap suc k2.1)))

@@ -16,7 +16,7 @@ use Rattle.resolved_service.specs.declared.service.Method.{Method}
 use Rattle.resolved_service.specs.declared.service.Resolved.{Resolved}
 use Rattle.resolved_service.specs.Jobs.{first_world, meant_by, meant_event, call_meaning}
 use Rattle.resolved_service.specs.Meaning as m
-use Rattle.resolved_service.specs.Meaning.{State, Outcome, Done, Trapped, Left, effects, phases_run, called, with_blanks, event_run}
+use Rattle.resolved_service.specs.Meaning.{State, Outcome, Done, Trapped, Left, effects, phases_run, call_act, with_blanks, event_run}
 use Rattle.resolved_service.specs.Steps.{steps_in, surely_ends}
 use Rattle.service_code.specs.declared.program.Program.{Program}
 use Rattle.service_verify.specs.Boxes.{first_frame, event_frames, first_frames, first_box}
@@ -80,7 +80,7 @@ module _ (program : Program) (fit : IsFit program) (verified : IsVerified progra
   none_more : 0 + length cb ≡ length cb
   none_more = omega arith
 
-  statements : HasAt program fit verified number 0 cb → Performs program fit verified (first_tour program call tree) (Onward program fit verified h (0 + length cb) []) (Low TICKS) (Leaving program fit verified (InEvent info.reply) h TICKS []) (effects (called service.methods TICKS) TICKS [] (steps_in event.here) first)
+  statements : HasAt program fit verified number 0 cb → Performs program fit verified (first_tour program call tree) (Onward program fit verified h (0 + length cb) []) (Low TICKS) (Leaving program fit verified (InEvent info.reply) h TICKS []) (effects (call_act service.methods TICKS) TICKS [] (steps_in event.here) first)
   statements has =
       effects_run program fit verified service.methods made TICKS (calls_follow program fit verified service.methods made typed TICKS) (length service.methods) event.locals 0 (InEvent info.reply) h [] (steps_in event.here) event_typed.here 0 TICKS first (first_tour program call tree) (omega arith) (omega arith) has begins
 
@@ -88,16 +88,16 @@ module _ (program : Program) (fit : IsFit program) (verified : IsVerified progra
   behaves = by (surely_ends (steps_in event.here)) refl event_typed.phases stands
     where
       o : Outcome (Unit {0})
-      o = effects (called service.methods TICKS) TICKS [] (steps_in event.here) first
+      o = effects (call_act service.methods TICKS) TICKS [] (steps_in event.here) first
 
       by : (b : Bool) → surely_ends (steps_in event.here) ≡ b → AreTypedPhases program.shape service.methods (length service.methods) event.locals 0 b event.phases info.reply event.last → HasAt program fit verified number 0 (cb ++ phases_code service.methods program.texts (length cb) b event.phases event.at event.last) →
           Finishes program fit verified service.methods made typed (first_tour program call tree) (event_run service.methods TICKS event call.args (first_world call.generation tree))
       by true ended phases has =
-          finish_on program fit verified service.methods made typed info.reply h TICKS [] (first_tour program call tree) (λ u st d. ⊥) (Low TICKS) o (λ u. phases_run (called service.methods TICKS) TICKS event.phases event.last [])
-          (never_ends program fit verified (first_tour program call tree) (Onward program fit verified h (0 + length cb) []) (Low TICKS) (Leaving program fit verified (InEvent info.reply) h TICKS []) (λ u st d. ⊥) (Low TICKS) o (never_effects (called service.methods TICKS) TICKS [] (steps_in event.here) ended first) (statements (has_front program fit verified number 0 cb _ has)))
+          finish_on program fit verified service.methods made typed info.reply h TICKS [] (first_tour program call tree) (λ u st d. ⊥) (Low TICKS) o (λ u. phases_run (call_act service.methods TICKS) TICKS event.phases event.last [])
+          (never_ends program fit verified (first_tour program call tree) (Onward program fit verified h (0 + length cb) []) (Low TICKS) (Leaving program fit verified (InEvent info.reply) h TICKS []) (λ u st d. ⊥) (Low TICKS) o (never_effects (call_act service.methods TICKS) TICKS [] (steps_in event.here) ended first) (statements (has_front program fit verified number 0 cb _ has)))
           (λ u st1 d a1 q1. absurd a1)
       by false ended phases has =
-          finish_on program fit verified service.methods made typed info.reply h TICKS [] (first_tour program call tree) (Onward program fit verified h (0 + length cb) []) (Low TICKS) o (λ u. phases_run (called service.methods TICKS) TICKS event.phases event.last [])
+          finish_on program fit verified service.methods made typed info.reply h TICKS [] (first_tour program call tree) (Onward program fit verified h (0 + length cb) []) (Low TICKS) o (λ u. phases_run (call_act service.methods TICKS) TICKS event.phases event.last [])
           (statements (has_front program fit verified number 0 cb _ has))
           (λ u st1 d a1 q1. phases_finish program fit verified service.methods made typed TICKS TICKS (omega arith) (length service.methods) event.locals event.at event.phases 0 info.reply event.last phases h (length cb) st1 d q1
           (subst (λ x. HasAt program fit verified number x (phases_code service.methods program.texts (length cb) false event.phases event.at event.last)) none_more (has_back program fit verified number 0 cb _ has))

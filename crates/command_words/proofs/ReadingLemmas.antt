@@ -9,15 +9,15 @@ use Rattle.clap.specs.declared.error.kind.ErrorKind.{ErrorKind}
 use Rattle.clap.specs.declared.error.kind.ErrorKind.TheVariants as kind
 use Rattle.clap.proofs.OnLiterals.{clap_on_literals}
 use Rattle.command_words.specs.Choice.{choice_of}
-use Rattle.command_words.specs.Reading.{asked_by, bare, command_line, command_of, places_of}
+use Rattle.command_words.specs.Reading.{asked_by, bare_shape, command_line, command_of, places_of}
 
 -- the switches of the command, one after the other
 pub bare_app : (a b c d : App) → a ≡ new_app (codes "eventwave") → b ≡ on_top (λ s. record s { no_binary_name = true }) a
-    → c ≡ on_top (λ s. record s { disable_help_flag = true }) b → d ≡ on_top (λ s. record s { disable_version_flag = true }) c → d ≡ on_top bare (new_app (codes "eventwave"))
+    → c ≡ on_top (λ s. record s { disable_help_flag = true }) b → d ≡ on_top (λ s. record s { disable_version_flag = true }) c → d ≡ on_top bare_shape (new_app (codes "eventwave"))
 bare_app a b c d start e1 e2 e3 =
     e3 ∙ ap (on_top (λ s. record s { disable_version_flag = true })) e2
     ∙ ap (λ (x : App). on_top (λ s. record s { disable_help_flag = true; disable_version_flag = true }) x) e1
-    ∙ ap (on_top bare) start
+    ∙ ap (on_top bare_shape) start
 
 simple : is_simple command_line ≡ true
 unfolding command_line clap_on_literals

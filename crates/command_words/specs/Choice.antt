@@ -47,12 +47,12 @@ command_with verb.Load (Some n) workers None Unlisted = Some (Load n (crew_of wo
 command_with _ _ _ _ _ = None
 
 -- what is given stands for something, or nothing is given
-abbrev pub given : {X : Type 0} → (List ℕ → Option X) → Option (List ℕ) → Option (Option X)
-given read None = Some None
-given read (Some word) = option_map Some (read word)
+abbrev pub given_value : {X : Type 0} → (List ℕ → Option X) → Option (List ℕ) → Option (Option X)
+given_value read None = Some None
+given_value read (Some word) = option_map Some (read word)
 
 -- the command of this name, with the number, the workers, the schedule and the places that are given
 abbrev pub choice_of : List ℕ → Option (List ℕ) → Option (List ℕ) → Option (List ℕ) → Places → Option Command
 choice_of name number workers schedule places =
     option_and_then (λ v. option_and_then (λ n. option_and_then (λ w. option_and_then (λ s. command_with v n w s places)
-    (given schedule_of schedule)) (given workers_of workers)) (given number_of number)) (verb_of name)
+    (given_value schedule_of schedule)) (given_value workers_of workers)) (given_value number_of number)) (verb_of name)

@@ -30,11 +30,11 @@ abbrev pub map_rule : Rule
 map_rule = record (new_rule (codes "map")) { long = Some (codes "map"); action = Some SetTrue }
 
 -- the words begin behind the program's name; there is no `--help` and no `--version`
-abbrev pub bare : Shape → Shape
-bare s = record s { no_binary_name = true; disable_help_flag = true; disable_version_flag = true }
+abbrev pub bare_shape : Shape → Shape
+bare_shape s = record s { no_binary_name = true; disable_help_flag = true; disable_version_flag = true }
 
 unfoldable pub command_line : App
-command_line = with_rule (with_rule (with_rule (with_rule (with_rule (on_top bare (new_app (codes "eventwave"))) name_rule) number_rule) workers_rule) schedule_rule) map_rule
+command_line = with_rule (with_rule (with_rule (with_rule (with_rule (on_top bare_shape (new_app (codes "eventwave"))) name_rule) number_rule) workers_rule) schedule_rule) map_rule
 
 -- ---- what it asks for
 
@@ -42,13 +42,13 @@ abbrev pub places_of : Option (List ℕ) → Places
 places_of None = Unlisted
 places_of (Some word) = if same_bytes word (codes "true") then Listed else Unlisted
 
-abbrev pub asked : Option (List ℕ) → Option (List ℕ) → Option (List ℕ) → Option (List ℕ) → Option (List ℕ) → Option Command
-asked None number workers schedule map = None
-asked (Some name) number workers schedule map = choice_of name number workers schedule (places_of map)
+abbrev pub asked_command : Option (List ℕ) → Option (List ℕ) → Option (List ℕ) → Option (List ℕ) → Option (List ℕ) → Option Command
+asked_command None number workers schedule map = None
+asked_command (Some name) number workers schedule map = choice_of name number workers schedule (places_of map)
 
 -- what the values that were found ask for
 abbrev pub asked_by : List Row → Option Command
-asked_by rows = asked (first_of (codes "command") rows) (first_of (codes "number") rows) (first_of (codes "workers") rows)
+asked_by rows = asked_command (first_of (codes "command") rows) (first_of (codes "number") rows) (first_of (codes "workers") rows)
     (first_of (codes "schedule") rows) (first_of (codes "map") rows)
 
 abbrev pub are_none : Kinds → Bool

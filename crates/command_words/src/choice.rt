@@ -2,7 +2,7 @@
 
 ghost use Rattle.std.specs.Prelude.{◌≡◌, option_map};
 ghost use Rattle.command_words.specs.Values.{number_of, schedule_of, workers_of};
-ghost use Rattle.command_words.specs.Choice.{choice_of, crew_of, verb_of, given, command_with};
+ghost use Rattle.command_words.specs.Choice.{choice_of, crew_of, verb_of, given_value, command_with};
 
 use crate::command::{Command, Crew, Places, Schedule};
 use crate::values::{number_of, schedule_of, workers_of};
@@ -111,7 +111,7 @@ fn command_with(
 }
 
 fn given_number(word: Option<&str>) -> Option<Option<u64>>
-    ensures { result ≡ given number_of (option_map (λ w. w.now) word.entry) }
+    ensures { result ≡ given_value number_of (option_map (λ w. w.now) word.entry) }
 {
     match word {
         Some(word) => Some(Some(number_of(word)?)),
@@ -120,7 +120,7 @@ fn given_number(word: Option<&str>) -> Option<Option<u64>>
 }
 
 fn given_workers(word: Option<&str>) -> Option<Option<u8>>
-    ensures { result ≡ given workers_of (option_map (λ w. w.now) word.entry) }
+    ensures { result ≡ given_value workers_of (option_map (λ w. w.now) word.entry) }
 {
     match word {
         Some(word) => Some(Some(workers_of(word)?)),
@@ -129,7 +129,7 @@ fn given_workers(word: Option<&str>) -> Option<Option<u8>>
 }
 
 fn given_schedule(word: Option<&str>) -> Option<Option<Schedule>>
-    ensures { result ≡ given schedule_of (option_map (λ w. w.now) word.entry) }
+    ensures { result ≡ given_value schedule_of (option_map (λ w. w.now) word.entry) }
 {
     match word {
         Some(word) => Some(Some(schedule_of(word)?)),

@@ -67,7 +67,7 @@ impl Commits {
     }
 
     /// The event of this ticket has ended.
-    pub fn done(&mut self, ticket: Ticket, ended: EventResult)
+    pub fn add_result(&mut self, ticket: Ticket, ended: EventResult)
         requires room { 1 ≤ self.old.room }
         requires above { self.old.committed < ticket.0 }
         requires fresh { map.get self.old.results ticket.0 ≡ None }

@@ -20,7 +20,7 @@ use Rattle.wave_base.specs.PathLaws.{path_eq_equiv, path_eq_decides}
 use Rattle.wave_base.specs.Shapes.{initial_fields}
 use Rattle.wave_base.specs.Starts.{shown_fields}
 use Rattle.wave_base.specs.Tree.{put, enter}
-use Rattle.context_tree.specs.Contexts.{Contexts, shot_at, in_order, kept, shots_with, with_fields, paths_of, is_there, fields_in, HasField, tree_of}
+use Rattle.context_tree.specs.Contexts.{Contexts, shot_at, in_order, contexts_of, shots_with, with_fields, paths_of, is_there, fields_in, HasField, tree_of}
 use Rattle.context_tree.proofs.Ordered.{Entries, lookup_ordered, ordered_update, ordered_rises, keys_put}
 
 -- a key is found where the paths are equal
@@ -32,7 +32,7 @@ found_among (e ∷ es) p = rw (path_eq_equiv.symm p e.0) (by_test (path_eq e.0 p
     by_test true o h = refl
     by_test false o h = h
 
-pub found : (es : Entries) (p : Path) → option_map (λ r. r.fields) (lookup (path_eq p) es) ≡ fields_in (kept es).shots p
+pub found : (es : Entries) (p : Path) → option_map (λ r. r.fields) (lookup (path_eq p) es) ≡ fields_in (contexts_of es).shots p
 found es p = ap (option_map (λ r. r.fields)) (sym (lookup_ordered p es)) ∙ found_among (in_order es) p
 
 -- a context is there exactly where its fields are kept
@@ -53,18 +53,18 @@ shown_is shape (s ∷ shots) p = by_test (path_eq s.path p) (shown_is shape shot
     by_test true h = refl
     by_test false h = h
 
-shown_by : (shape : Shape) (es : Entries) (p : Path) → shown_fields shape (kept es).shots p ≡ unwrap_or (option_map (λ r. r.fields) (lookup (path_eq p) es)) (initial_fields shape p)
-shown_by shape es p = shown_is shape (kept es).shots p ∙ ap (λ o. unwrap_or o (initial_fields shape p)) (sym (found es p))
+shown_by : (shape : Shape) (es : Entries) (p : Path) → shown_fields shape (contexts_of es).shots p ≡ unwrap_or (option_map (λ r. r.fields) (lookup (path_eq p) es)) (initial_fields shape p)
+shown_by shape es p = shown_is shape (contexts_of es).shots p ∙ ap (λ o. unwrap_or o (initial_fields shape p)) (sym (found es p))
 
 is_some-option_map : {A B : Type 0} (f : A → B) (o : Option A) → is_some (option_map f o) ≡ is_some o
 is_some-option_map f None = refl
 is_some-option_map f (Some x) = refl
 
 -- the map has the key exactly where the context is there
-pub there_kept : (es : Entries) (p : Path) → is_some (lookup (path_eq p) es) ≡ is_there (kept es) p
-there_kept es p = sym (is_some-option_map (λ r. r.fields) (lookup (path_eq p) es)) ∙ ap is_some (found es p) ∙ there_in (kept es).shots p
+pub there_kept : (es : Entries) (p : Path) → is_some (lookup (path_eq p) es) ≡ is_there (contexts_of es) p
+there_kept es p = sym (is_some-option_map (λ r. r.fields) (lookup (path_eq p) es)) ∙ ap is_some (found es p) ∙ there_in (contexts_of es).shots p
 
-pub there_by : (es : Entries) (p : Path) (t : Contexts) (b : Bool) → kept es ≡ t → b ≡ is_some (lookup (path_eq p) es) → is_there t p ≡ b
+pub there_by : (es : Entries) (p : Path) (t : Contexts) (b : Bool) → contexts_of es ≡ t → b ≡ is_some (lookup (path_eq p) es) → is_there t p ≡ b
 there_by es p t b view h = ap (λ (u : Contexts). is_there u p) (sym view) ∙ sym (there_kept es p) ∙ sym h
 
 -- what a look-up gave
@@ -77,25 +77,25 @@ is_some-copied None = refl
 is_some-copied (Some x) = refl
 
 module _ (es : Entries) (p : Path) where
-  pub none_absent : (o : Option (Bor Record)) → option_copied o ≡ lookup (path_eq p) es → IsNone o ↔ (is_there (kept es) p ≡ false)
-  none_absent o e = none_there o (is_there (kept es) p) (sym (is_some-copied o) ∙ ap is_some e ∙ there_kept es p)
+  pub none_absent : (o : Option (Bor Record)) → option_copied o ≡ lookup (path_eq p) es → IsNone o ↔ (is_there (contexts_of es) p ≡ false)
+  none_absent o e = none_there o (is_there (contexts_of es) p) (sym (is_some-copied o) ∙ ap is_some e ∙ there_kept es p)
 
-  pub some_shown : (shape : Shape) (o : Option (Bor Record)) → option_copied o ≡ lookup (path_eq p) es → IfSome o (λ r. r.now.fields ≡ shown_fields shape (kept es).shots p)
+  pub some_shown : (shape : Shape) (o : Option (Bor Record)) → option_copied o ≡ lookup (path_eq p) es → IfSome o (λ r. r.now.fields ≡ shown_fields shape (contexts_of es).shots p)
   some_shown shape None e = tt
   some_shown shape (Some r) e = sym (shown_by shape es p ∙ ap (λ o. unwrap_or (option_map (λ (r : Record). r.fields) o) (initial_fields shape p)) (sym e))
 
 -- a record that a look-up found
 module _ (es : Entries) (p : Path) (r : Record) (h : lookup (path_eq p) es ≡ Some r) where
-  pub kept_fields : fields_in (kept es).shots p ≡ Some r.fields
+  pub kept_fields : fields_in (contexts_of es).shots p ≡ Some r.fields
   kept_fields = sym (found es p) ∙ ap (option_map (λ r. r.fields)) h
 
-  pub shown_record : (shape : Shape) → shown_fields shape (kept es).shots p ≡ r.fields
-  shown_record shape = shown_is shape (kept es).shots p ∙ ap (λ o. unwrap_or o (initial_fields shape p)) kept_fields
+  pub shown_record : (shape : Shape) → shown_fields shape (contexts_of es).shots p ≡ r.fields
+  shown_record shape = shown_is shape (contexts_of es).shots p ∙ ap (λ o. unwrap_or o (initial_fields shape p)) kept_fields
 
-  pub has_field : (i : ℕ) → HasField (kept es) p i → i < length r.fields
+  pub has_field : (i : ℕ) → HasField (contexts_of es) p i → i < length r.fields
   has_field i f = subst (λ (o : Option (List Value)). IsSomeAnd o (λ fs. i < length fs)) kept_fields f
 
-pub no_field : (es : Entries) (p : Path) (i : ℕ) → lookup (path_eq p) es ≡ None → HasField (kept es) p i → ⊥
+pub no_field : (es : Entries) (p : Path) (i : ℕ) → lookup (path_eq p) es ≡ None → HasField (contexts_of es) p i → ⊥
 no_field es p i h f = subst (λ (o : Option (List Value)). IsSomeAnd o (λ fs. i < length fs)) (sym (found es p) ∙ ap (option_map (λ r. r.fields)) h) f
 
 pub no_value : {A : Type 0} (o : Option A) → false ≡ is_some o → o ≡ None
@@ -103,24 +103,24 @@ no_value None e = refl
 no_value (Some x) e = absurd (true≢false (sym e))
 
 -- what a look-up doesn't find is not there
-pub not_there : (es : Entries) (p : Path) → lookup (path_eq p) es ≡ None → is_there (kept es) p ≡ true → ⊥
+pub not_there : (es : Entries) (p : Path) → lookup (path_eq p) es ≡ None → is_there (contexts_of es) p ≡ true → ⊥
 not_there es p none there = true≢false (sym there ∙ sym (there_kept es p) ∙ ap is_some none)
 
 pub paths_are_keys : (es : Entries) → map (λ s. s.path) (map shot_at es) ≡ keys_of es
 paths_are_keys [] = refl
 paths_are_keys (e ∷ es) = ap (λ ps. e.0 ∷ ps) (paths_are_keys es)
 
-pub paths_rise : (es : Entries) → IsStrictlySortedBy path_cmp (paths_of (kept es))
+pub paths_rise : (es : Entries) → IsStrictlySortedBy path_cmp (paths_of (contexts_of es))
 paths_rise es = subst (IsStrictlySortedBy path_cmp) (sym (paths_are_keys (in_order es))) (ordered_rises es)
 
 -- a record that a map has at a path, where it has all others as before
 module _ (shape : Shape) (es fs : Entries) (p : Path) (r : Record) (h : (q : Path) → lookup (path_eq q) fs ≡ cond (path_eq p q) (Some r) (lookup (path_eq q) es)) where
-  paths_put : paths_of (kept fs) ≡ insert_key path_cmp (paths_of (kept es)) p
+  paths_put : paths_of (contexts_of fs) ≡ insert_key path_cmp (paths_of (contexts_of es)) p
   paths_put =
       paths_are_keys (in_order fs) ∙ ap keys_of (ordered_update es fs p r h) ∙ keys_put p r (in_order es)
       ∙ ap (λ ps. insert_key path_cmp ps p) (sym (paths_are_keys (in_order es)))
 
-  fields_put : (q : Path) → shown_fields shape (kept fs).shots q ≡ (if path_eq p q then r.fields else shown_fields shape (kept es).shots q)
+  fields_put : (q : Path) → shown_fields shape (contexts_of fs).shots q ≡ (if path_eq p q then r.fields else shown_fields shape (contexts_of es).shots q)
   fields_put q =
       shown_by shape fs q ∙ ap (λ o. unwrap_or (option_map (λ (r : Record). r.fields) o) (initial_fields shape q)) (h q)
       ∙ by_test (path_eq p q) (lookup (path_eq q) es) (initial_fields shape q)
@@ -131,22 +131,22 @@ module _ (shape : Shape) (es fs : Entries) (p : Path) (r : Record) (h : (q : Pat
       by_test false o d = refl
 
   -- at a path that is there its fields are others
-  pub tree_changed : IsSome (lookup (path_eq p) es) → tree_of shape (kept fs) ≡ put (tree_of shape (kept es)) p r.fields
+  pub tree_changed : IsSome (lookup (path_eq p) es) → tree_of shape (contexts_of fs) ≡ put (tree_of shape (contexts_of es)) p r.fields
   tree_changed s =
-      let same = ap (λ t. t.paths) (enter_there (tree_of shape (kept es)) p (paths_rise es) (sym (there_kept es p) ∙ s)) in
+      let same = ap (λ t. t.paths) (enter_there (tree_of shape (contexts_of es)) p (paths_rise es) (sym (there_kept es p) ∙ s)) in
       λ i. record { paths = (paths_put ∙ same) i; fields = λ q. fields_put q i }
 
   -- with the initial fields it joins at a path that is not there
-  pub tree_joined : r.fields ≡ initial_fields shape p → lookup (path_eq p) es ≡ None → tree_of shape (kept fs) ≡ enter (tree_of shape (kept es)) p
+  pub tree_joined : r.fields ≡ initial_fields shape p → lookup (path_eq p) es ≡ None → tree_of shape (contexts_of fs) ≡ enter (tree_of shape (contexts_of es)) p
   tree_joined initial none i = record { paths = paths_put i; fields = λ q. (fields_put q ∙ shown q) i }
     where
-      absent : shown_fields shape (kept es).shots p ≡ r.fields
+      absent : shown_fields shape (contexts_of es).shots p ≡ r.fields
       absent = shown_by shape es p ∙ ap (λ o. unwrap_or (option_map (λ (r : Record). r.fields) o) (initial_fields shape p)) none ∙ sym initial
 
-      shown : (q : Path) → (if path_eq p q then r.fields else shown_fields shape (kept es).shots q) ≡ shown_fields shape (kept es).shots q
+      shown : (q : Path) → (if path_eq p q then r.fields else shown_fields shape (contexts_of es).shots q) ≡ shown_fields shape (contexts_of es).shots q
       shown q =
-          elim (path_eq p q) as (λ b. path_eq p q ≡ b → (if b then r.fields else shown_fields shape (kept es).shots q) ≡ shown_fields shape (kept es).shots q) [
-            | true ↦ λ e. sym absent ∙ ap (shown_fields shape (kept es).shots) ((path_eq_decides p q).0 e)
+          elim (path_eq p q) as (λ b. path_eq p q ≡ b → (if b then r.fields else shown_fields shape (contexts_of es).shots q) ≡ shown_fields shape (contexts_of es).shots q) [
+            | true ↦ λ e. sym absent ∙ ap (shown_fields shape (contexts_of es).shots) ((path_eq_decides p q).0 e)
             | false ↦ λ e. refl
           ] refl
 
@@ -170,10 +170,10 @@ shots_put p r (e ∷ es) =
     ]
 
 pub kept_with : (es fs : Entries) (p : Path) (r : Record) → ((q : Path) → lookup (path_eq q) fs ≡ cond (path_eq p q) (Some r) (lookup (path_eq q) es)) → keys_of fs ≡ keys_of es
-    → kept fs ≡ with_fields (kept es) p r.fields
+    → contexts_of fs ≡ with_fields (contexts_of es) p r.fields
 kept_with es fs p r h keys = λ i. record { shots = (ap (map shot_at) (ordered_update es fs p r h) ∙ shots_put p r (in_order es)) i; joined = keys i }
 
-pub put_fields : (shape : Shape) (es : Entries) (p : Path) (fields : List Value) → is_there (kept es) p ≡ true → tree_of shape (with_fields (kept es) p fields) ≡ put (tree_of shape (kept es)) p fields
+pub put_fields : (shape : Shape) (es : Entries) (p : Path) (fields : List Value) → is_there (contexts_of es) p ≡ true → tree_of shape (with_fields (contexts_of es) p fields) ≡ put (tree_of shape (contexts_of es)) p fields
 put_fields shape es p fields there =
     let r : Record = record { fields = fields; children = [] } in
     let fs : Entries = (p, r) ∷ es in

@@ -20,7 +20,7 @@ use Rattle.wave_base.specs.Shapes.{fields_of_class, initial_fields}
 use Rattle.wave_base.specs.Starts.{shown_fields}
 use Rattle.wave_base.specs.Tree.{shots}
 use Rattle.wave_base.specs.Trees.{first_tree}
-use Rattle.context_tree.specs.Contexts.{Contexts, shot_at, kept, as_pair, tree_of, IsOrdered}
+use Rattle.context_tree.specs.Contexts.{Contexts, shot_at, contexts_of, as_pair, tree_of, IsOrdered}
 use Rattle.context_tree.proofs.KeptLemmas.{paths_are_keys, paths_rise}
 use Rattle.context_tree.proofs.Ordered.{Entries, ordered_already}
 
@@ -61,7 +61,7 @@ module _ (es : Entries) (shots : List Shot) (same : map shot_at es ≡ shots) (o
   keys_are : keys_of es ≡ map (λ s. s.path) shots
   keys_are = sym (paths_are_keys es) ∙ ap (map (λ s. s.path)) same
 
-  pub kept_as_they_stand : kept es ≡ record { shots = shots; joined = map (λ s. s.path) shots }
+  pub kept_as_they_stand : contexts_of es ≡ record { shots = shots; joined = map (λ s. s.path) shots }
   kept_as_they_stand =
       let already = ordered_already es (subst (IsStrictlySortedBy path_cmp) (sym keys_are) ordered) in
       λ i. record { shots = (ap (map shot_at) already ∙ same) i; joined = keys_are i }
@@ -71,15 +71,15 @@ one_path : IsOrdered (record { path = []; fields = [] } ∷ [])
 unfolding IsStrictlySortedBy
 one_path = (tt, tt)
 
-pub first_kept : (shape : Shape) (es : Entries) (r : Record) → es ≡ ([], r) ∷ [] → r.fields ≡ fields_of_class shape 0 → tree_of shape (kept es) ≡ first_tree shape
+pub first_kept : (shape : Shape) (es : Entries) (r : Record) → es ≡ ([], r) ∷ [] → r.fields ≡ fields_of_class shape 0 → tree_of shape (contexts_of es) ≡ first_tree shape
 first_kept shape es r e initial =
-    ap (λ es. tree_of shape (kept es)) e ∙ ap (tree_of shape) (kept_as_they_stand (([], r) ∷ []) (record { path = []; fields = r.fields } ∷ []) refl one_path) ∙ (λ i. record { paths = [] ∷ []; fields = λ q. shown q i })
+    ap (λ es. tree_of shape (contexts_of es)) e ∙ ap (tree_of shape) (kept_as_they_stand (([], r) ∷ []) (record { path = []; fields = r.fields } ∷ []) refl one_path) ∙ (λ i. record { paths = [] ∷ []; fields = λ q. shown q i })
   where
     shown : (q : Path) → (if path_eq [] q then r.fields else initial_fields shape q) ≡ initial_fields shape q
     shown [] = initial
     shown (s ∷ q) = refl
 
-pub ordered_kept : (es : Entries) (t : Contexts) → kept es ≡ t → IsOrdered t.shots
+pub ordered_kept : (es : Entries) (t : Contexts) → contexts_of es ≡ t → IsOrdered t.shots
 ordered_kept es t view = subst (λ (t : Contexts). IsOrdered t.shots) view (paths_rise es)
 
 abbrev pub paired : {A B : Type 0} → (A → B) → A → A × B

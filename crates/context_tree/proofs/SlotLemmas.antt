@@ -14,7 +14,7 @@ use Rattle.wave_base.specs.declared.shape.Shape.{Shape}
 use Rattle.wave_base.specs.Paths.{path_eq}
 use Rattle.wave_base.specs.PathLaws.{path_eq_decides}
 use Rattle.wave_base.specs.Starts.{shown_fields}
-use Rattle.context_tree.specs.Contexts.{Contexts, kept, joins, is_there}
+use Rattle.context_tree.specs.Contexts.{Contexts, contexts_of, joins, is_there}
 use Rattle.context_tree.proofs.KeptLemmas.{shown_record, there_kept}
 use Rattle.context_tree.proofs.Ordered.{Entries, any_found}
 
@@ -58,7 +58,7 @@ module _ (p : Path) (r : Record) where
       ∙ ap (λ b. if b then keys_of es else keys_of es ++ p ∷ []) (sym (any_found p es ∙ ap is_some none))
 
 -- one that is there stays where it is
-pub joins_kept : (es : Entries) (p : Path) (t : Contexts) → kept es ≡ t → is_some (lookup (path_eq p) es) ≡ true → t.joined ≡ joins t.joined p
+pub joins_kept : (es : Entries) (p : Path) (t : Contexts) → contexts_of es ≡ t → is_some (lookup (path_eq p) es) ≡ true → t.joined ≡ joins t.joined p
 joins_kept es p t view h =
     subst (λ (t : Contexts). t.joined ≡ joins t.joined p) view (ap (λ b. if b then keys_of es else keys_of es ++ p ∷ []) (sym (any_found p es ∙ h)))
 
@@ -67,7 +67,7 @@ same_Some : {A : Type 0} (x y : A) → Some x ≡ Some y → x ≡ y
 same_Some x y e = ap (λ o. unwrap_or o x) e
 
 pub found_in_slot : (shape : Shape) (es : Entries) (slot : ℕ) (p q : Path) (r : Record) → Some (q, r) ≡ slice_get es slot → lookup (path_eq q) es ≡ Some r → slice_get (keys_of es) slot ≡ Some p
-    → r.fields ≡ shown_fields shape (kept es).shots p
+    → r.fields ≡ shown_fields shape (contexts_of es).shots p
 found_in_slot shape es slot p q r entry value is =
     let same : q ≡ p = same_Some q p (ap (option_map (λ (e : Path × Record). e.0)) entry ∙ sym (slice_get-map (λ (e : Path × Record). e.0) es slot) ∙ is) in
     sym (shown_record es p r (subst (λ k. lookup (path_eq k) es ≡ Some r) same value) shape)
@@ -77,10 +77,10 @@ module _ (es : Entries) (p q : Path) (r : Record) (h : lookup (path_eq q) es ≡
   at_path : lookup (path_eq p) es ≡ Some r
   at_path = subst (λ k. lookup (path_eq k) es ≡ Some r) ((path_eq_decides q p).0 e) h
 
-  pub near_there : is_there (kept es) p ≡ true
+  pub near_there : is_there (contexts_of es) p ≡ true
   near_there = sym (there_kept es p) ∙ ap is_some at_path
 
-  pub near_shown : (shape : Shape) → r.fields ≡ shown_fields shape (kept es).shots p
+  pub near_shown : (shape : Shape) → r.fields ≡ shown_fields shape (contexts_of es).shots p
   near_shown shape = sym (shown_record es p r at_path shape)
 
 -- a path that stands in a slot
@@ -118,7 +118,7 @@ any_at p (q ∷ ps) (suc slot) h = ap (λ b. path_eq p q || b) (any_at p ps slot
     or_true true = refl
     or_true false = refl
 
-pub slot_there : (es : Entries) (p : Path) (slot : ℕ) → slice_get (keys_of es) slot ≡ Some p → is_there (kept es) p ≡ true
+pub slot_there : (es : Entries) (p : Path) (slot : ℕ) → slice_get (keys_of es) slot ≡ Some p → is_there (contexts_of es) p ≡ true
 slot_there es p slot h = sym (there_kept es p) ∙ sym (any_found p es) ∙ any_at p (keys_of es) slot h
 
 keys_length : (es : Entries) → length (keys_of es) ≡ length es
@@ -137,21 +137,21 @@ slot_below (q ∷ ps) zero p h = omega arith
 slot_below (q ∷ ps) (suc slot) p h = omega (arith, slot_below ps slot p h)
 
 -- the slot of a path that is there, or one past all
-module _ (es : Entries) (p : Path) (place : ℕ) (at : is_there (kept es) p ≡ true → slice_get (keys_of es) place ≡ Some p) (past : is_there (kept es) p ≡ false → length (keys_of es) ≤ place) where
-  pub there_below : place < length es → is_there (kept es) p ≡ true
-  there_below l = by (is_there (kept es) p) refl
+module _ (es : Entries) (p : Path) (place : ℕ) (at : is_there (contexts_of es) p ≡ true → slice_get (keys_of es) place ≡ Some p) (past : is_there (contexts_of es) p ≡ false → length (keys_of es) ≤ place) where
+  pub there_below : place < length es → is_there (contexts_of es) p ≡ true
+  there_below l = by (is_there (contexts_of es) p) refl
     where
-      by : (b : Bool) → is_there (kept es) p ≡ b → b ≡ true
+      by : (b : Bool) → is_there (contexts_of es) p ≡ b → b ≡ true
       by true e = refl
       by false e = absurd (omega (arith, l, past e, keys_length es))
 
-  below_there : is_there (kept es) p ≡ true → place < length es
+  below_there : is_there (contexts_of es) p ≡ true → place < length es
   below_there there = omega (arith, slot_below (keys_of es) place p (at there), keys_length es)
 
-  pub none_past : (o : Option (MutBor Record)) → IsSome o ↔ (place < length es) → IsNone o ↔ (is_there (kept es) p ≡ false)
-  none_past None f = (λ n. by (is_there (kept es) p) refl, λ e. refl)
+  pub none_past : (o : Option (MutBor Record)) → IsSome o ↔ (place < length es) → IsNone o ↔ (is_there (contexts_of es) p ≡ false)
+  none_past None f = (λ n. by (is_there (contexts_of es) p) refl, λ e. refl)
     where
-      by : (b : Bool) → is_there (kept es) p ≡ b → b ≡ false
+      by : (b : Bool) → is_there (contexts_of es) p ≡ b → b ≡ false
       by true e = absurd (true≢false (sym (f.1 (below_there e))))
       by false e = refl
   none_past (Some r) f = (λ n. absurd (true≢false n), λ e. absurd (true≢false (sym (there_below (f.0 refl)) ∙ e)))

@@ -28,8 +28,8 @@ shot_at e = record { path = e.0; fields = e.1.fields }
 abbrev pub in_order : List (Path × Record) → List (Path × Record)
 in_order es = table.entries (table.from_entries {R = path_cmp} es)
 
-abbrev pub kept : List (Path × Record) → Contexts
-kept es = record { shots = map shot_at (in_order es); joined = keys_of es }
+abbrev pub contexts_of : List (Path × Record) → Contexts
+contexts_of es = record { shots = map shot_at (in_order es); joined = keys_of es }
 
 -- a path joins last, unless it is there
 abbrev pub joins : List Path → Path → List Path

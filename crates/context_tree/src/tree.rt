@@ -24,11 +24,11 @@ pub struct Tree {
 }
 
 impl Model for Tree {
-    ghost use Rattle.context_tree.specs.Contexts.{Contexts, kept};
+    ghost use Rattle.context_tree.specs.Contexts.{Contexts, contexts_of};
 
     ghost Value = { Contexts };
 
-    ghost view = { λ t. kept t.contexts.entries };
+    ghost view = { λ t. contexts_of t.contexts.entries };
 }
 
 impl Tree {

@@ -17,7 +17,7 @@ use Rattle.type_rules.specs.declared.meant.Callee.{Callee}
 use Rattle.type_rules.specs.declared.meant.Callee.TheVariants as callee
 use Rattle.type_rules.specs.Demands.{Demand, ask, first_wrong, Fails}
 use Rattle.type_rules.specs.Known.{class_named, method_named, signature_at}
-use Rattle.type_rules.specs.Here.{Here, called, takes, gives, is_earlier, method_in}
+use Rattle.type_rules.specs.Here.{Here, callee_named, takes, gives, is_earlier, method_in}
 use Rattle.type_rules.specs.Exprs.{resolve, resolve_all, count, args_demands, call_demands, call_gives, call_tree, class_asks, child_gives, child_tree, child_demands, demands_as, or_zero}
 use Rattle.type_rules.proofs.First.{told_past, fails_front, fails_behind, fails_same, holds_both}
 use Rattle.context_types.specs.declared.calls.Called.{Called}
@@ -35,18 +35,18 @@ module _ (h : Here) (at : Span) (name : List ℕ) (args : ExprTrees) where
   Asked o = ask (is_some o) (UnknownName at) ∷ ask (option_map_or (is_earlier h) o false) (CalleeLater at) ∷ args_asks h at (option_map_or (takes h.known) o []) args
 
   -- once it is known what is called, and that it is earlier, the arguments decide
-  pub call_same : (c : Callee) → called h name ≡ Some c → is_earlier h c ≡ true → first_wrong (call_demands h at name args) ≡ first_wrong (args_asks h at (takes h.known c) args)
+  pub call_same : (c : Callee) → callee_named h name ≡ Some c → is_earlier h c ≡ true → first_wrong (call_demands h at name args) ≡ first_wrong (args_asks h at (takes h.known c) args)
   call_same c found earlier = ap (λ o. first_wrong (Asked o)) found ∙ told_past (is_earlier h c) (CalleeLater at) (args_asks h at (takes h.known c) args) earlier
 
-  pub builtin_called : (row : ℕ) (given : Kind) (ts : Vec Expr Global) (x : Called) → called h name ≡ Some (callee.Builtin row) → resolve_all h args ≡ trees_of (map tree_of ts.items) → given ≡ gives_of row
-      → x.gives ≡ Some given → x.tree ≡ record { at = at; node = node.Op row ts } → IsCalled (call_gives h name) (call_tree at (called h name) (resolve_all h args)) x
+  pub builtin_called : (row : ℕ) (given : Kind) (ts : Vec Expr Global) (x : Called) → callee_named h name ≡ Some (callee.Builtin row) → resolve_all h args ≡ trees_of (map tree_of ts.items) → given ≡ gives_of row
+      → x.gives ≡ Some given → x.tree ≡ record { at = at; node = node.Op row ts } → IsCalled (call_gives h name) (call_tree at (callee_named h name) (resolve_all h args)) x
   builtin_called row given ts x found trees is_given given_too made = record {
     gives = ap (option_and_then (gives h.known)) found ∙ sym (given_too ∙ ap Some is_given);
     tree = ap (λ o. call_tree at o (resolve_all h args)) found ∙ ap (r.Op at row) trees ∙ sym (ap tree_of made ∙ op_node row ts at);
   }
 
-  pub method_called : (m : ℕ) (ts : Vec Expr Global) (x : Called) → called h name ≡ Some (callee.Method m) → resolve_all h args ≡ trees_of (map tree_of ts.items)
-      → x.gives ≡ (signature_at h.known m).result → x.tree ≡ record { at = at; node = node.Call m ts } → IsCalled (call_gives h name) (call_tree at (called h name) (resolve_all h args)) x
+  pub method_called : (m : ℕ) (ts : Vec Expr Global) (x : Called) → callee_named h name ≡ Some (callee.Method m) → resolve_all h args ≡ trees_of (map tree_of ts.items)
+      → x.gives ≡ (signature_at h.known m).result → x.tree ≡ record { at = at; node = node.Call m ts } → IsCalled (call_gives h name) (call_tree at (callee_named h name) (resolve_all h args)) x
   method_called m ts x found trees is_given made = record {
     gives = ap (option_and_then (gives h.known)) found ∙ sym is_given;
     tree = ap (λ o. call_tree at o (resolve_all h args)) found ∙ ap (r.Call at m) trees ∙ sym (ap tree_of made ∙ call_node m ts at);

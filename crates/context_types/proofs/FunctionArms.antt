@@ -15,7 +15,7 @@ use Rattle.type_rules.specs.Known.{kinds_of, class_named, event_named, method_na
 use Rattle.type_rules.specs.Here.{Here, OfMethod, OfEvent, rows_of, start, in_class}
 use Rattle.type_rules.specs.Exprs.{or_zero, class_asks, demands_as, resolve}
 use Rattle.type_rules.specs.Stmts.{after_all, resolve_stmts, stmts_demands}
-use Rattle.type_rules.specs.Functions.{LastView, PhaseView, method_params_demands, event_params_demands, last_demands, resolve_last, method_start, method_end, method_body, method_demands, resolve_method, event_start, here_stmts, here_end, here_body, event_ended, ended_behind, inside, phase_end, event_end, phase_demands, phases_demands, event_demands, resolve_phase, resolve_phases, resolve_event}
+use Rattle.type_rules.specs.Functions.{LastView, PhaseView, method_params_demands, event_params_demands, last_demands, resolve_last, method_start, method_end, method_body, method_demands, resolve_method, event_start, here_stmts, here_end, here_body, event_ended, ended_behind, phase_here, phase_end, event_end, phase_demands, phases_demands, event_demands, resolve_phase, resolve_phases, resolve_event}
 use Rattle.type_rules.proofs.First.{told_past, fails_at, fails_past, fails_front, fails_behind, fails_same, holds_both}
 
 -- a demand, and three lists behind it
@@ -103,7 +103,7 @@ module _ (h : Here) (ended : Bool) (p : PhaseTree) where
   Key = demands_as h k.Int p.key
 
   abbrev Stmts : List Demand
-  Stmts = stmts_demands (inside h p) (stmts_of p.body)
+  Stmts = stmts_demands (phase_here h p) (stmts_of p.body)
 
   abbrev Asked : List Demand
   Asked = Class ++ (Key ++ Stmts)
@@ -126,7 +126,7 @@ module _ (h : Here) (ended : Bool) (p : PhaseTree) where
       phase_key_fails e f = tells e (fails_behind Class (Key ++ Stmts) e class (fails_front Key Stmts e f))
 
       module _ (key : first_wrong Key ≡ None) (n : ℕ) (number : class_named h.known p.class ≡ Some n) where
-        inside_is : inside h p ≡ in_class h n
+        inside_is : phase_here h p ≡ in_class h n
         inside_is = ap (λ o. in_class h (or_zero o)) number
 
         stmts_same : first_wrong Stmts ≡ first_wrong (stmts_demands (in_class h n) (stmts_of p.body))

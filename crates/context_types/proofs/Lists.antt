@@ -17,7 +17,7 @@ use Rattle.resolved_service.specs.Steps.{Step, steps_of, step, is_end, surely_en
 use Rattle.resolved_service.specs.View.{Tree, trees_of, tree}
 use Rattle.type_rules.specs.declared.known.Known.{Known}
 use Rattle.type_rules.specs.Demands.{Demand, first_wrong}
-use Rattle.type_rules.specs.Here.{Here, declared}
+use Rattle.type_rules.specs.Here.{Here, with_local}
 use Rattle.type_rules.specs.Exprs.{count, resolve, resolve_all, demands_as, args_demands}
 use Rattle.type_rules.specs.Stmts.{after, after_all, resolve_stmt, resolve_stmts, start_of, reach_asks, stmt_demands, stmts_demands, behind_demands}
 use Rattle.type_rules.specs.Functions.{MethodView, PhaseView, EventView, after_params, param_asks, no_map, method_params_demands, event_params_demands, phase_body, phase_end, event_end, ended_behind, phase_demands, phases_demands, resolve_phase, resolve_phases, method_demands, resolve_method, event_demands, resolve_event}
@@ -27,7 +27,7 @@ use Rattle.context_types.proofs.Walking.{ends, walk, makes}
 -- ---- parameters
 
 abbrev pub next_param : Here → Param → Here
-next_param h p = declared h p.name.text p.kind
+next_param h p = with_local h p.name.text p.kind
 
 abbrev pub event_param_asks : Here → Param → List Demand
 event_param_asks h p = param_asks h p ++ no_map p

@@ -6,7 +6,7 @@ use Rattle.wave_base.specs.declared.value.Kind.TheVariants.{Int}
 use Rattle.mace_ast.specs.Stmts as s
 use Rattle.mace_ast.specs.Stmts.{StmtTree, StmtTrees, ElseTree, no_stmts, stmt_and, no_else, otherwise}
 use Rattle.type_rules.specs.declared.meant.Local.{Local}
-use Rattle.type_rules.specs.Here.{Here, counted, behind}
+use Rattle.type_rules.specs.Here.{Here, with_counter, behind}
 use Rattle.type_rules.specs.Exprs.{kind_of}
 use Rattle.type_rules.specs.Stmts.{kind_or_int, after, after_all}
 
@@ -48,7 +48,7 @@ cut_block h p ss before cut is number cuts =
     sym (cuts ∙ (λ i. take (number i) ((ap (λ (x : Here). x.locals) (sym is) ∙ g.1) i)) ∙ take-append_seam h.locals g.0)
 
 -- the name of a loop goes with its block
-pub cut_loop : (h j p : Here) (name : List ℕ) (ss : StmtTrees) (before : ℕ) (cut : List Local) → counted h name ≡ j → after_all j ss ≡ p → before ≡ length h.locals → cut ≡ take before p.locals → h.locals ≡ cut
+pub cut_loop : (h j p : Here) (name : List ℕ) (ss : StmtTrees) (before : ℕ) (cut : List Local) → with_counter h name ≡ j → after_all j ss ≡ p → before ≡ length h.locals → cut ≡ take before p.locals → h.locals ≡ cut
 cut_loop h j p name ss before cut on is number cuts =
     let g = all_grow j ss in
     let grown : p.locals ≡ h.locals ++ ((counted_name ∷ []) ++ g.0) =

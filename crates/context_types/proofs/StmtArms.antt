@@ -12,7 +12,7 @@ use Rattle.resolved_service.specs.Steps.{Step, Steps, Else}
 use Rattle.resolved_service.specs.View.{Tree}
 use Rattle.type_rules.specs.declared.error.TypeError.{TypeError}
 use Rattle.type_rules.specs.Demands.{Demand, first_wrong, Fails, Judges}
-use Rattle.type_rules.specs.Here.{Here, counted, behind}
+use Rattle.type_rules.specs.Here.{Here, with_counter, behind}
 use Rattle.type_rules.specs.Exprs.{resolve, demands_as}
 use Rattle.type_rules.specs.Stmts.{after, after_all, after_else, resolve_stmt, resolve_stmts, resolve_else, local_asks, stmt_demands, stmts_demands, else_demands}
 use Rattle.type_rules.proofs.First.{fails_front, fails_behind, fails_same, holds_both}
@@ -85,7 +85,7 @@ module _ (h : Here) (at : Span) (name : Name) (low high : ExprTree) (body : Stmt
   Local = local_asks h name 3
 
   abbrev Turn : List Demand
-  Turn = stmts_demands (counted h name.text) body
+  Turn = stmts_demands (with_counter h name.text) body
 
   pub for_low_fails : (e : TypeError) → Fails Low e → Fails (stmt_demands h (s.For at name low high body)) e
   for_low_fails e f = fails_front Low (High ++ (Local ++ Turn)) e f
@@ -98,7 +98,7 @@ module _ (h : Here) (at : Span) (name : Name) (low high : ExprTree) (body : Stmt
       pub for_name_fails : (e : TypeError) → Fails Local e → Fails (stmt_demands h (s.For at name low high body)) e
       for_name_fails e f = fails_behind Low (High ++ (Local ++ Turn)) e l (fails_behind High (Local ++ Turn) e g (fails_front Local Turn e f))
 
-      module _ (n : first_wrong Local ≡ None) (j : Here) (on : counted h name.text ≡ j) where
+      module _ (n : first_wrong Local ≡ None) (j : Here) (on : with_counter h name.text ≡ j) where
         turn_same : first_wrong Turn ≡ first_wrong (stmts_demands j body)
         turn_same = ap (λ p. first_wrong (stmts_demands p body)) on
 

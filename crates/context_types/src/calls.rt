@@ -17,7 +17,7 @@ use mace_ast::Expr;
 use resolved_service::{Expr as Tree, Node as Resolved};
 use std::alloc::Global;
 use type_rules::{Callee, TypeError};
-use wave_base::{Class, Kind, Span, Txt, boxed, push};
+use wave_base::{Class, Kind, Span, Txt, box_of, push};
 
 /// A call with its names resolved, and the kind of its result, if it has one.
 #[derive(Drop)]
@@ -63,9 +63,9 @@ impl Here<'_> {
     ) -> Result<Called, TypeError>
         ensures { let given = exprs_of (map expr_tree args.now) in
             Judges (rules.call_demands (here_of self.now) at name.now given)
-            (IsCalled (rules.call_gives (here_of self.now) name.now) (rules.call_tree at (names.called (here_of self.now) name.now) (rules.resolve_all (here_of self.now) given))) result }
+            (IsCalled (rules.call_gives (here_of self.now) name.now) (rules.call_tree at (names.callee_named (here_of self.now) name.now) (rules.resolve_all (here_of self.now) given))) result }
     {
-        match self.called(name) {
+        match self.callee_named(name) {
             None => Err(TypeError::UnknownName(at)),
             Some(Callee::Builtin(row)) => {
                 let operators = self.known.operators();
@@ -106,7 +106,7 @@ impl Here<'_> {
         };
         let signature = self.known.signature(method);
         let args = self.args(alloc, at, signature.params.as_slice(), args)?;
-        let key = boxed(alloc, key)?;
+        let key = box_of(alloc, key)?;
         let node = Resolved::Child(Class(class), method, key, args);
         Ok(Called::new(at, signature.result, node))
     }

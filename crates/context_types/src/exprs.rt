@@ -20,7 +20,7 @@ use resolved_service::{Expr as Tree, Node as Resolved};
 use std::alloc::Global;
 use type_rules::{TypeError, Variable};
 use type_tables::{rows_before, rows_of_index, rows_of_sign, same_kind};
-use wave_base::{Kind, OutOfMemory, Span, Table, Txt, Value, boxed, push};
+use wave_base::{Kind, OutOfMemory, Span, Table, Txt, Value, box_of, push};
 
 /// An expression with its names resolved, and its kind.
 #[derive(Drop)]
@@ -225,7 +225,7 @@ fn truths(
     if left.kind != Kind::Bool || right.kind != Kind::Bool {
         return Err(TypeError::Mismatch(at));
     }
-    let left = boxed(alloc, left.tree)?;
-    let right = boxed(alloc, right.tree)?;
+    let left = box_of(alloc, left.tree)?;
+    let right = box_of(alloc, right.tree)?;
     Ok((left, right))
 }

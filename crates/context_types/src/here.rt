@@ -68,8 +68,8 @@ impl Here<'_> {
     }
 
     /// What a call names: a builtin, else an own method.
-    pub fn called(&self, name: &Txt) -> Option<Callee>
-        ensures found { result ≡ rules.called (here_of self.now) name.now }
+    pub fn callee_named(&self, name: &Txt) -> Option<Callee>
+        ensures found { result ≡ rules.callee_named (here_of self.now) name.now }
         ensures callable { IfSome result (IsCallable self.now.known.now) }
     {
         match self.known.builtin(name) {

@@ -37,7 +37,7 @@ impl Here<'_> {
         slot: u16,
     ) -> Result<(), OutOfMemory>
         requires { slot ≡ length self.old.slots.items }
-        ensures { OnOk result (here_of self.new ≡ rules.declared (here_of self.old) name.now kind) }
+        ensures { OnOk result (here_of self.new ≡ rules.with_local (here_of self.old) name.now kind) }
     {
         let name = name.copy(alloc)?;
         self.locals.push(Local { name, kind, slot })?;

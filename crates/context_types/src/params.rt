@@ -2,7 +2,7 @@
 
 ghost use Rattle.std.specs.Prelude.{◌≡◌};
 ghost use Rattle.type_rules.specs.Demands.{Judges};
-ghost use Rattle.type_rules.specs.Here.{declared};
+ghost use Rattle.type_rules.specs.Here.{with_local};
 ghost use Rattle.type_rules.specs.Functions as rules;
 ghost use Rattle.context_types.specs.inner.Places.{here_of};
 
@@ -38,7 +38,7 @@ impl Here<'_> {
     }
 
     fn param(&mut self, alloc: Global, param: &Param) -> Result<(), TypeError>
-        ensures { Judges (rules.param_asks (here_of self.old) param.now) (λ _. declared (here_of self.old) param.now.name.text param.now.kind ≡ here_of self.new) result }
+        ensures { Judges (rules.param_asks (here_of self.old) param.now) (λ _. with_local (here_of self.old) param.now.name.text param.now.kind ≡ here_of self.new) result }
     {
         let slot = self.slots.len();
         if slot >= PARAMS {

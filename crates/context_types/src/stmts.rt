@@ -7,7 +7,7 @@ ghost use Rattle.mace_ast.specs.Stmts as syntax;
 ghost use Rattle.mace_ast.specs.Stmts.{stmt_tree, stmts_of, else_of};
 ghost use Rattle.resolved_service.specs.Steps.{step_of};
 ghost use Rattle.type_rules.specs.Demands.{Judges};
-ghost use Rattle.type_rules.specs.Here.{behind, counted};
+ghost use Rattle.type_rules.specs.Here.{behind, with_counter};
 ghost use Rattle.type_rules.specs.Stmts as rules;
 ghost use Rattle.context_types.specs.inner.Places.{here_of, IsStep, AreSteps, IsOther};
 
@@ -119,7 +119,7 @@ impl Here<'_> {
     // The name of a loop over numbers, with the counter and the bound before it; the slot of the counter.
     fn count(&mut self, alloc: Global, name: &Name) -> Result<u16, TypeError>
         ensures { let h = here_of self.old in
-            Judges (rules.local_asks h name.now 3) (λ slot. (slot ≡ length self.old.slots.items) × (counted h name.now.text ≡ here_of self.new)) result }
+            Judges (rules.local_asks h name.now 3) (λ slot. (slot ≡ length self.old.slots.items) × (with_counter h name.now.text ≡ here_of self.new)) result }
     {
         let counter = self.free_slot(name, 3)?;
         push(&mut self.slots, Kind::Int)?;

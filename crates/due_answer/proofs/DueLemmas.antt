@@ -15,7 +15,7 @@ use Rattle.command_words.specs.Inputs.{input_bytes, reads_input}
 use Rattle.due_parts.specs.declared.answer.Answer.{Answer}
 use Rattle.due_parts.specs.declared.report.Report.TheVariants.{Listing, Point}
 use Rattle.due_parts.specs.declared.telling.Telling.TheVariants.{Reports, Traces}
-use Rattle.due_parts.specs.Answers.{Only, too_large_input, written}
+use Rattle.due_parts.specs.Answers.{Only, too_large_input, text_answer}
 use Rattle.due_parts.specs.Coded.{IsCoded}
 use Rattle.due_parts.specs.Scripts.{IsDueScripted}
 use Rattle.due_parts.specs.Served.{IsTypedTree}
@@ -24,13 +24,13 @@ use Rattle.due_parts.proofs.DueLemmas.{sized_long}
 use Rattle.due_points.specs.Resumed.{IsDueResumed}
 use Rattle.due_stages.specs.Elastic.{IsDueElastic}
 use Rattle.due_replay.specs.Replayed.{IsDueReplayed}
-use Rattle.due_answer.specs.Due.{IsDue, IsListedCode, IsOnlyDue, IsPrinted, IsToldFor, approved}
+use Rattle.due_answer.specs.Due.{IsDue, IsListedCode, IsOnlyDue, IsPrinted, IsToldFor, approval}
 
 -- the listing of its code
-pub only_listed : (tree : ServiceTree) (typed : Typed) (program : Program) → IsTypedTree tree typed → IsCoded typed.shape typed.resolved program → Only (IsListedCode tree) (written (program_text program))
+pub only_listed : (tree : ServiceTree) (typed : Typed) (program : Program) → IsTypedTree tree typed → IsCoded typed.shape typed.resolved program → Only (IsListedCode tree) (text_answer (program_text program))
 only_listed tree typed program t c = record {
-  is_due = record { service = typed.resolved; resolved = t.resolved_is; due_is = ap (λ p. written (program_text p)) (c.is ∙ ap (λ s. scheme_program s typed.resolved) t.shape_is) };
-  only = λ other h. h.due_is ∙ ap (λ p. written (program_text p)) (same_programs (shape_of tree) h.service typed.resolved (h.resolved ∙ sym t.resolved_is) ∙ ap (λ s. scheme_program s typed.resolved) (sym t.shape_is) ∙ sym c.is);
+  is_due = record { service = typed.resolved; resolved = t.resolved_is; due_is = ap (λ p. text_answer (program_text p)) (c.is ∙ ap (λ s. scheme_program s typed.resolved) t.shape_is) };
+  only = λ other h. h.due_is ∙ ap (λ p. text_answer (program_text p)) (same_programs (shape_of tree) h.service typed.resolved (h.resolved ∙ sym t.resolved_is) ∙ ap (λ s. scheme_program s typed.resolved) (sym t.shape_is) ∙ sym c.is);
 }
 
 -- a command that reads its input is told so where there is too much of it
@@ -42,7 +42,7 @@ only_too_large (Trace places crew) bytes reads long = sized_long INPUT_BYTES (Is
 only_too_large (Save crew) bytes reads long = sized_long INPUT_BYTES (IsDueScripted (Reports Point)) bytes long
 only_too_large (Resume places crew) bytes reads long = sized_long LONG_INPUT_BYTES (IsDueResumed (Reports (Listing places))) bytes long
 only_too_large (Replay show crew) bytes reads long = sized_long LONG_INPUT_BYTES (IsDueReplayed show crew) bytes long
-only_too_large Check bytes reads long = sized_long INPUT_BYTES (λ b. IsDueService (λ tree a. a ≡ approved) (service_of b)) bytes long
+only_too_large Check bytes reads long = sized_long INPUT_BYTES (λ b. IsDueService (λ tree a. a ≡ approval) (service_of b)) bytes long
 only_too_large Code bytes reads long = sized_long INPUT_BYTES (λ b. IsDueService IsListedCode (service_of b)) bytes long
 only_too_large Print bytes reads long = sized_long INPUT_BYTES (λ b. IsDueService IsPrinted (service_of b)) bytes long
 only_too_large (Gen n) bytes reads long = cc

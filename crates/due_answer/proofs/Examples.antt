@@ -26,8 +26,8 @@ use Rattle.due_parts.specs.declared.report.Report.{Report}
 use Rattle.due_parts.specs.declared.report.Report.TheVariants.{Listing, Summary}
 use Rattle.due_parts.specs.Answers.{no_script, refusal, too_large_input}
 use Rattle.due_parts.specs.Scripts.{two_parts}
-use Rattle.due_parts.specs.Told.{reported}
-use Rattle.due_answer.specs.Due.{IsDue, IsOnlyDue, approved}
+use Rattle.due_parts.specs.Told.{report_answer}
+use Rattle.due_answer.specs.Due.{IsDue, IsOnlyDue, approval}
 
 -- ---- the parts of an input
 
@@ -89,7 +89,7 @@ much_service bytes within long = inr (within, record { read = Err TooLarge; pars
 
 -- ---- what is written, and with which status
 
-approved_is : approved ≡ record { status = 0; note = []; text = codes "ok\n" }
+approved_is : approval ≡ record { status = 0; note = []; text = codes "ok\n" }
 approved_is = refl
 
 -- of the number alone, whatever the input is
@@ -128,7 +128,7 @@ ran rs = record {
 }
 
 abbrev told : Report → List EventResult → Answer
-told report rs = reported shape (first_start shape) script report (ran rs)
+told report rs = report_answer shape (first_start shape) script report (ran rs)
 
 -- one trap makes the status 1, wherever it stands and whatever is told
 a_trap : told (Listing Unlisted) (replied ∷ trapped ∷ replied ∷ []) ≡ record { status = 1; note = []; text = codes "#1 open = 7\n#2 open trap Require at 3:5\n#3 open = 7\ndone 3\n" }

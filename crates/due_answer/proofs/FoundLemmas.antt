@@ -30,13 +30,13 @@ use Rattle.due_answer.specs.declared.prepared.Prepared.TheVariants.{Given, Run, 
 use Rattle.due_answer.specs.declared.task.Engine.{Engine}
 use Rattle.due_answer.specs.declared.task.Task.{Task}
 use Rattle.due_answer.specs.Due.{IsDue, IsToldFor}
-use Rattle.due_answer.specs.Prepared.{IsFound, Tells, given}
+use Rattle.due_answer.specs.Prepared.{IsFound, Tells, prepared_answer}
 use Rattle.due_answer.specs.Tasks.{engine_of, staged_of, task_of}
 use Rattle.due_answer.specs.inner.Ready.{AreReady}
 
 module _ (c : Command) (bytes : List ℕ) where
   -- an answer that was found at once
-  pub given_found : (P : Answer → Type 0) (r : Result Answer Refusal) → ((due : Answer) → Only P due → IsToldFor c bytes due) → IsOnlyDueOf P r → IsFound c bytes (given r)
+  pub given_found : (P : Answer → Type 0) (r : Result Answer Refusal) → ((due : Answer) → Only P due → IsToldFor c bytes due) → IsOnlyDueOf P r → IsFound c bytes (prepared_answer r)
   given_found P (Ok answer) lift o = lift answer o
   given_found P (Err (Due answer)) lift o = lift answer o
   given_found P (Err (OutOfMemory refused)) lift o = tt

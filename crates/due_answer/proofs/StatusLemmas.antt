@@ -18,7 +18,7 @@ use Rattle.type_rules.specs.Demands.{first_wrong}
 use Rattle.type_rules.specs.Services.{service_demands}
 use Rattle.type_rules.specs.Known.{shape_of}
 use Rattle.wave_meaning.specs.Meaning.{results_at, results_of}
-use Rattle.elastic_meaning.specs.Walks.{expanded}
+use Rattle.elastic_meaning.specs.Walks.{expanded_script}
 use Rattle.wave_labels.specs.declared.label.Label.{Label}
 use Rattle.wave_gen.specs.Load.{load_text}
 use Rattle.checkpoint_store.specs.declared.error.CheckError.{CheckError}
@@ -42,7 +42,7 @@ use Rattle.due_points.specs.Resumed.{IsDueChecked, IsDueFrom, IsDuePoint, IsDueR
 use Rattle.due_stages.specs.Elastic.{IsDueElastic, IsDueElasticLines, IsDueElasticRead, IsDueElasticScript, IsDueExpansion}
 use Rattle.due_replay.specs.Replayed.{IsDueJournal, IsDueOutcome, IsDueReplay, IsDueReplayed}
 use Rattle.due_replay.specs.Replayed.{IsDueRead as IsDueJournalRead}
-use Rattle.due_answer.specs.Due.{IsDue, IsListedCode, IsPrinted, approved}
+use Rattle.due_answer.specs.Due.{IsDue, IsListedCode, IsPrinted, approval}
 
 abbrev pub own_status : ℕ → Bool
 own_status n = n == 0 || n == 1 || n == 3 || n == 4 || n == 8 || n == 10 || n == 11
@@ -109,7 +109,7 @@ scripted telling bytes due =
 -- ---- scripts with policies
 
 expansion : (places : Places) (tree : ServiceTree) (e : Elastic) (due : Answer) → IsDueExpansion places tree e due → HasOwn due
-expansion places tree e due h = of_answer due _ h.due_is (by_traps (any_trap (results_of (shape_of tree) h.service (expanded (shape_of tree) h.service e)).results))
+expansion places tree e due h = of_answer due _ h.due_is (by_traps (any_trap (results_of (shape_of tree) h.service (expanded_script (shape_of tree) h.service e)).results))
 
 elastic_read : (P : Elastic → Answer → Type 0) (r : Result Elastic ScriptError) (due : Answer) → ((e : Elastic) → P e due → HasOwn due) → IsDueElasticRead P r due → HasOwn due
 elastic_read P (Err e) due f h = of_answer due _ h refl
@@ -152,8 +152,8 @@ replayed show crew bytes due =
 
 -- ---- commands
 
-approves : (due : Answer) → due ≡ approved → HasOwn due
-approves due h = of_answer due approved h refl
+approves : (due : Answer) → due ≡ approval → HasOwn due
+approves due h = of_answer due approval h refl
 
 pub statuses : (c : Command) (bytes : List ℕ) (due : Answer) → IsDue c bytes due → HasOwn due
 unfolding IsDue
@@ -163,7 +163,7 @@ statuses (Trace places crew) bytes due h = sized INPUT_BYTES (IsDueScripted (Tra
 statuses (Save crew) bytes due h = sized INPUT_BYTES (IsDueScripted (Reports Point)) bytes due (scripted (Reports Point) bytes due) h
 statuses (Resume places crew) bytes due h = sized LONG_INPUT_BYTES (IsDueResumed (Reports (Listing places))) bytes due (resumed (Reports (Listing places)) bytes due) h
 statuses (Replay show crew) bytes due h = sized LONG_INPUT_BYTES (IsDueReplayed show crew) bytes due (replayed show crew bytes due) h
-statuses Check bytes due h = sized INPUT_BYTES (λ b. IsDueService (λ tree a. a ≡ approved) (service_of b)) bytes due (service (λ tree a. a ≡ approved) (service_of bytes) due (λ tree k. approves due k)) h
+statuses Check bytes due h = sized INPUT_BYTES (λ b. IsDueService (λ tree a. a ≡ approval) (service_of b)) bytes due (service (λ tree a. a ≡ approval) (service_of bytes) due (λ tree k. approves due k)) h
 statuses Code bytes due h = sized INPUT_BYTES (λ b. IsDueService IsListedCode (service_of b)) bytes due (service IsListedCode (service_of bytes) due (λ tree k. of_answer due _ k.due_is refl)) h
 statuses Print bytes due h = sized INPUT_BYTES (λ b. IsDueService IsPrinted (service_of b)) bytes due (service IsPrinted (service_of bytes) due (λ tree k. of_answer due _ k.due_is refl)) h
 statuses (Gen n) bytes due h = of_answer due _ h refl

@@ -20,7 +20,7 @@ use Rattle.wave_gen.specs.Load.{load_text}
 use Rattle.due_parts.specs.declared.answer.Answer.{Answer}
 use Rattle.due_parts.specs.declared.report.Report.TheVariants.{Listing, Summary, Point}
 use Rattle.due_parts.specs.declared.telling.Telling.TheVariants.{Reports, Traces}
-use Rattle.due_parts.specs.Answers.{Only, written}
+use Rattle.due_parts.specs.Answers.{Only, text_answer}
 use Rattle.due_parts.specs.Scripts.{IsDueScripted, IsDueSized}
 use Rattle.due_parts.specs.Services.{IsDueService}
 use Rattle.due_points.specs.Resumed.{IsDueResumed}
@@ -28,8 +28,8 @@ use Rattle.due_stages.specs.Elastic.{IsDueElastic}
 use Rattle.due_replay.specs.Replayed.{IsDueReplayed}
 
 -- a service that is typed is told so
-abbrev pub approved : Answer
-approved = written (codes "ok" ++ 10 ∷ [])
+abbrev pub approval : Answer
+approval = text_answer (codes "ok" ++ 10 ∷ [])
 
 -- ---- a service that is printed
 
@@ -40,7 +40,7 @@ IsReadBack tree text =
 
 -- the service in canonical layout, which is read back as that service
 pub record IsPrinted (tree : ServiceTree) (due : Answer) : Type 0 where
-  pub due_is : due ≡ written (layout (service_words tree))
+  pub due_is : due ≡ text_answer (layout (service_words tree))
   pub again : IsReadBack tree due.text
 
 -- ---- commands
@@ -49,7 +49,7 @@ pub record IsPrinted (tree : ServiceTree) (due : Answer) : Type 0 where
 pub record IsListedCode (tree : ServiceTree) (due : Answer) : Type 0 where
   pub service : Resolved
   pub resolved : resolved_view service ≡ resolve_service tree
-  pub due_is : due ≡ written (program_text (scheme_program (shape_of tree) service))
+  pub due_is : due ≡ text_answer (program_text (scheme_program (shape_of tree) service))
 
 -- of the input of a command, which may be more than it may have
 abbrev pub IsDueInput : Command → (List ℕ → Answer → Type 0) → List ℕ → Answer → Type 0
@@ -66,10 +66,10 @@ IsDue (Trace places crew) bytes due = IsDueInput (Trace places crew) (IsDueScrip
 IsDue (Save crew) bytes due = IsDueInput (Save crew) (IsDueScripted (Reports Point)) bytes due
 IsDue (Resume places crew) bytes due = IsDueInput (Resume places crew) (IsDueResumed (Reports (Listing places))) bytes due
 IsDue (Replay show crew) bytes due = IsDueInput (Replay show crew) (IsDueReplayed show crew) bytes due
-IsDue Check bytes due = IsDueInput Check (λ b. IsDueService (λ tree a. a ≡ approved) (service_of b)) bytes due
+IsDue Check bytes due = IsDueInput Check (λ b. IsDueService (λ tree a. a ≡ approval) (service_of b)) bytes due
 IsDue Code bytes due = IsDueInput Code (λ b. IsDueService IsListedCode (service_of b)) bytes due
 IsDue Print bytes due = IsDueInput Print (λ b. IsDueService IsPrinted (service_of b)) bytes due
-IsDue (Gen n) bytes due = due ≡ written (load_text n)
+IsDue (Gen n) bytes due = due ≡ text_answer (load_text n)
 IsDue (Load n crew) bytes due = IsDueSized INPUT_BYTES (IsDueScripted (Reports Summary)) (load_text n) due
 
 -- it is due, and nothing else is

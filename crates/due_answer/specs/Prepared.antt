@@ -54,6 +54,6 @@ IsFound c bytes (Err (Due answer)) = IsToldFor c bytes answer
 IsFound c bytes (Err (OutOfMemory refused)) = Unit {0}
 
 -- an answer that was found at once
-abbrev pub given : Result Answer Refusal → Result Prepared Refusal
-given (Ok answer) = Ok (Given answer)
-given (Err refusal) = Err refusal
+abbrev pub prepared_answer : Result Answer Refusal → Result Prepared Refusal
+prepared_answer (Ok answer) = Ok (Given answer)
+prepared_answer (Err refusal) = Err refusal

@@ -10,19 +10,21 @@ ghost use Rattle.mace_printer.specs.Written.{IsParsed};
 ghost use Rattle.service_code.specs.Listing.{CanList, program_text};
 ghost use Rattle.wave_base.specs.declared.limits.TheConstants.{LONG_INPUT_BYTES};
 ghost use Rattle.due_parts.specs.Accepted.{IsOnlyDueOf};
-ghost use Rattle.due_parts.specs.Answers.{Only, written};
+ghost use Rattle.due_parts.specs.Answers.{Only, text_answer};
 ghost use Rattle.due_parts.specs.Services.{IsDueService};
 ghost use Rattle.due_parts.specs.declared.answer.Answer.{Answer};
 ghost use Rattle.due_stages.specs.Elastic.{IsDueElastic};
-ghost use Rattle.due_answer.specs.Due.{IsListedCode, IsPrinted, IsToldFor, approved};
-ghost use Rattle.due_answer.specs.Prepared.{IsFound, IsPrepared, given};
+ghost use Rattle.due_answer.specs.Due.{IsListedCode, IsPrinted, IsToldFor, approval};
+ghost use Rattle.due_answer.specs.Prepared.{IsFound, IsPrepared, prepared_answer};
 ghost use Rattle.due_answer.specs.Tasks.{staged_of};
 ghost use Rattle.due_answer.specs.inner.Ready.{AreReady};
 
 use crate::prepared::Prepared;
 use crate::task::{Engine, Task};
 use command_words::{Command, Crew, Places};
-use due_parts::{Answer, Refusal, Report, Telling, accept, served, too_large, written};
+use due_parts::{
+    Answer, Refusal, Report, Telling, accept, service_of_text, text_answer, too_large,
+};
 use due_points::accept_resumed;
 use due_replay::judge_replay;
 use due_stages::accept_elastic;
@@ -52,8 +54,8 @@ fn find(alloc: Global, command: Command, input: &[u8]) -> Result<Prepared, Refus
     ensures { IsFound command input.now result }
 {
     match command {
-        Command::Run(places, crew) => staged(alloc, places, Engine::of_crew(crew), input),
-        Command::Seq(places) => staged(alloc, places, Engine::Evaluator, input),
+        Command::Run(places, crew) => prepared_stages(alloc, places, Engine::of_crew(crew), input),
+        Command::Seq(places) => prepared_stages(alloc, places, Engine::Evaluator, input),
         Command::Trace(places, crew) => {
             let telling = Telling::Traces(places, crew);
             ready(alloc, telling, Engine::of_crew(crew), input)
@@ -62,19 +64,19 @@ fn find(alloc: Global, command: Command, input: &[u8]) -> Result<Prepared, Refus
             let telling = Telling::Reports(Report::Point);
             ready(alloc, telling, Engine::Workers(crew.workers), input)
         }
-        Command::Resume(places, crew) => resumed(alloc, places, crew, input),
-        Command::Replay(show, crew) => given(judge_replay(alloc, show, crew, input)),
-        Command::Check => given(checked(alloc, input)),
-        Command::Print => given(printed(alloc, input)),
-        Command::Code => given(listed_code(alloc, input)),
-        Command::Gen(n) => Ok(Prepared::Given(written(alloc, generate(alloc, n)?))),
-        Command::Load(n, crew) => loaded(alloc, n, crew),
+        Command::Resume(places, crew) => prepared_resumption(alloc, places, crew, input),
+        Command::Replay(show, crew) => prepared_answer(judge_replay(alloc, show, crew, input)),
+        Command::Check => prepared_answer(check_answer(alloc, input)),
+        Command::Print => prepared_answer(print_answer(alloc, input)),
+        Command::Code => prepared_answer(listed_code(alloc, input)),
+        Command::Gen(n) => Ok(Prepared::Given(text_answer(alloc, generate(alloc, n)?))),
+        Command::Load(n, crew) => prepared_load(alloc, n, crew),
     }
 }
 
 // An answer that was found, or a refusal.
-fn given(found: Result<Answer, Refusal>) -> Result<Prepared, Refusal>
-    ensures { result ≡ given found }
+fn prepared_answer(found: Result<Answer, Refusal>) -> Result<Prepared, Refusal>
+    ensures { result ≡ prepared_answer found }
 {
     match found {
         Ok(answer) => Ok(Prepared::Given(answer)),
@@ -93,7 +95,12 @@ fn ready(alloc: Global, telling: Telling, engine: Engine, input: &[u8]) -> Resul
 }
 
 // A service and a script with policies that are to be run piece by piece by an engine, and listed.
-fn staged(alloc: Global, places: Places, engine: Engine, input: &[u8]) -> Result<Prepared, Refusal>
+fn prepared_stages(
+    alloc: Global,
+    places: Places,
+    engine: Engine,
+    input: &[u8],
+) -> Result<Prepared, Refusal>
     ensures { (c : Command) → staged_of c ≡ Some (places, engine) → ((due : Answer) → Only (IsDueElastic places input.now) due → IsToldFor c input.now due) → IsFound c input.now result }
 {
     match accept_elastic(alloc, input) {
@@ -103,7 +110,12 @@ fn staged(alloc: Global, places: Places, engine: Engine, input: &[u8]) -> Result
 }
 
 // A service, a checkpoint and a script that a crew is to run from there, and list.
-fn resumed(alloc: Global, places: Places, crew: Crew, input: &[u8]) -> Result<Prepared, Refusal>
+fn prepared_resumption(
+    alloc: Global,
+    places: Places,
+    crew: Crew,
+    input: &[u8],
+) -> Result<Prepared, Refusal>
     requires { length input.now ≤ LONG_INPUT_BYTES }
     ensures { IsFound (command.Resume places crew) input.now result }
 {
@@ -118,7 +130,7 @@ fn resumed(alloc: Global, places: Places, crew: Crew, input: &[u8]) -> Result<Pr
 }
 
 // The generated load of a number, which a crew is to run, summed up.
-fn loaded(alloc: Global, n: u64, crew: Crew) -> Result<Prepared, Refusal>
+fn prepared_load(alloc: Global, n: u64, crew: Crew) -> Result<Prepared, Refusal>
     ensures { (bytes : List ℕ) → IsFound (command.Load n crew) bytes result }
 {
     let load = generate(alloc, n)?;
@@ -135,20 +147,20 @@ fn loaded(alloc: Global, n: u64, crew: Crew) -> Result<Prepared, Refusal>
 }
 
 // What is due where a service is typed and nothing more is asked.
-fn approved(alloc: Global) -> Result<Answer, OutOfMemory>
-    ensures { IfOk result (λ a. a ≡ approved) }
+fn approval(alloc: Global) -> Result<Answer, OutOfMemory>
+    ensures { IfOk result (λ a. a ≡ approval) }
 {
     let text = Vec::from_slice(alloc, b"ok\n")?;
-    Ok(written(alloc, Seq::from_vec(text)))
+    Ok(text_answer(alloc, Seq::from_vec(text)))
 }
 
 // What is due for a service that is to be checked.
-fn checked(alloc: Global, input: &[u8]) -> Result<Answer, Refusal>
-    ensures { IsOnlyDueOf (IsDueService (λ tree a. a ≡ approved) (service_of input.now)) result }
+fn check_answer(alloc: Global, input: &[u8]) -> Result<Answer, Refusal>
+    ensures { IsOnlyDueOf (IsDueService (λ tree a. a ≡ approval) (service_of input.now)) result }
 {
     let (text, _) = parts_of(input);
-    match served(alloc, text) {
-        Ok(_) => Ok(approved(alloc)?),
+    match service_of_text(alloc, text) {
+        Ok(_) => Ok(approval(alloc)?),
         Err(refusal) => Err(refusal),
     }
 }
@@ -158,15 +170,15 @@ fn layout(alloc: Global, service: &Service) -> Result<Answer, OutOfMemory>
     requires { IsParsed (service_tree service.now) }
     ensures { IfOk result (Only (IsPrinted (service_tree service.now))) }
 {
-    Ok(written(alloc, print(alloc, service)?))
+    Ok(text_answer(alloc, print(alloc, service)?))
 }
 
 // What is due for a service that is to be printed.
-fn printed(alloc: Global, input: &[u8]) -> Result<Answer, Refusal>
+fn print_answer(alloc: Global, input: &[u8]) -> Result<Answer, Refusal>
     ensures { IsOnlyDueOf (IsDueService IsPrinted (service_of input.now)) result }
 {
     let (text, _) = parts_of(input);
-    match served(alloc, text) {
+    match service_of_text(alloc, text) {
         Ok((typed, _)) => Ok(layout(alloc, &typed.service)?),
         Err(refusal) => Err(refusal),
     }
@@ -175,9 +187,9 @@ fn printed(alloc: Global, input: &[u8]) -> Result<Answer, Refusal>
 // The code of a service.
 fn listing_of(alloc: Global, program: &Program) -> Result<Answer, OutOfMemory>
     requires { All (CanList program.now.shape) program.now.functions }
-    ensures { IfOk result (λ a. a ≡ written (program_text program.now)) }
+    ensures { IfOk result (λ a. a ≡ text_answer (program_text program.now)) }
 {
-    Ok(written(alloc, code_listing(alloc, program)?))
+    Ok(text_answer(alloc, code_listing(alloc, program)?))
 }
 
 // What is due for a service whose code is asked for.
@@ -185,7 +197,7 @@ fn listed_code(alloc: Global, input: &[u8]) -> Result<Answer, Refusal>
     ensures { IsOnlyDueOf (IsDueService IsListedCode (service_of input.now)) result }
 {
     let (text, _) = parts_of(input);
-    match served(alloc, text) {
+    match service_of_text(alloc, text) {
         Ok((_, code)) => Ok(listing_of(alloc, code.program())?),
         Err(refusal) => Err(refusal),
     }

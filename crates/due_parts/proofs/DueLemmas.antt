@@ -20,7 +20,7 @@ use Rattle.due_parts.specs.declared.report.Report.{Report}
 use Rattle.due_parts.specs.Answers.{Only, too_large_input}
 use Rattle.due_parts.specs.Scripts.{IsDueSized, IsDueShort}
 use Rattle.due_parts.specs.Services.{IsDueService, IsDueOf, IsDueTyped}
-use Rattle.due_parts.specs.Told.{IsDueFold, reported}
+use Rattle.due_parts.specs.Told.{IsDueFold, report_answer}
 use Rattle.service_code.specs.declared.program.Program.{Program}
 use Rattle.due_parts.specs.Coded.{IsCoded}
 use Rattle.due_parts.specs.Served.{IsTypedTree, IsRefusal, IsRead, IsServed, IsTypedRead}
@@ -86,11 +86,11 @@ same_results : (shape : Shape) (a b : Resolved) (start : Start) (script : Script
 same_results shape a b start script e = ap (λ calls. finished_of (λ tree call. (calls tree call).ran) shape start script) (same_calls a b e)
 
 pub only_fold : (report : Report) (tree : ServiceTree) (typed : Typed) (start : Start) (script : Script) → IsTypedTree tree typed → IsWholeAt typed.shape typed.resolved start script →
-    Only (IsDueFold report tree start script) (reported typed.shape start script report (results_at typed.shape typed.resolved start script))
+    Only (IsDueFold report tree start script) (report_answer typed.shape start script report (results_at typed.shape typed.resolved start script))
 only_fold report tree typed start script t whole = record {
-  is_due = record { service = typed.resolved; resolved = t.resolved_is; whole = subst (λ s. IsWholeAt s typed.resolved start script) t.shape_is whole; due_is = ap (λ s. reported s start script report (results_at s typed.resolved start script)) t.shape_is };
-  only = λ other h. h.due_is ∙ ap (reported (shape_of tree) start script report) (same_results (shape_of tree) h.service typed.resolved start script (h.resolved ∙ sym t.resolved_is))
-      ∙ ap (λ s. reported s start script report (results_at s typed.resolved start script)) (sym t.shape_is);
+  is_due = record { service = typed.resolved; resolved = t.resolved_is; whole = subst (λ s. IsWholeAt s typed.resolved start script) t.shape_is whole; due_is = ap (λ s. report_answer s start script report (results_at s typed.resolved start script)) t.shape_is };
+  only = λ other h. h.due_is ∙ ap (report_answer (shape_of tree) start script report) (same_results (shape_of tree) h.service typed.resolved start script (h.resolved ∙ sym t.resolved_is))
+      ∙ ap (λ s. report_answer s start script report (results_at s typed.resolved start script)) (sym t.shape_is);
 }
 
 -- a text that isn't too long

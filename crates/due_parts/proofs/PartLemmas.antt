@@ -3,7 +3,7 @@ use Rattle.std.proofs.Common.{◌≡◌, ◌≤◌, ◌<◌, ◌+◌, ℕ, true,
 use Rattle.std.specs.List.{join_with_byte}
 use Rattle.std.specs.Option.{option_map_or}
 use Rattle.wave_text.specs.Lines.{is_inside, onto_first, cut_lines}
-use Rattle.input_parts.specs.Parts.{is_dashes, with_first, parted, ended, service_of, joined, script_of}
+use Rattle.input_parts.specs.Parts.{is_dashes, with_first, line_parts, lines_text, service_of, text_behind, script_of}
 use Rattle.due_parts.specs.Scripts.{two_parts, with_third}
 
 -- how many bytes lines have, each with one more
@@ -39,28 +39,28 @@ few_first : (l : List ℕ) (ls : List (List ℕ)) (o : Option (List (List ℕ) �
 few_first l ls None h = tt
 few_first l ls (Some x) h = let both = h.both in record { both = omega (arith, both) }
 
-parted_few : (ls : List (List ℕ)) → IfSome (parted ls) (AreFew ls)
+parted_few : (ls : List (List ℕ)) → IfSome (line_parts ls) (AreFew ls)
 parted_few [] = tt
 parted_few (l ∷ ls) =
-    elim (is_dashes l) as (λ t. IfSome (cond t (Some ([], ls)) (with_first l (parted ls))) (AreFew (l ∷ ls))) [
+    elim (is_dashes l) as (λ t. IfSome (cond t (Some ([], ls)) (with_first l (line_parts ls))) (AreFew (l ∷ ls))) [
       | true ↦ record { both = omega arith }
-      | false ↦ few_first l ls (parted ls) (parted_few ls)
+      | false ↦ few_first l ls (line_parts ls) (parted_few ls)
     ]
 
-ended_size : (ls : List (List ℕ)) → length (ended ls) ≡ size ls
+ended_size : (ls : List (List ℕ)) → length (lines_text ls) ≡ size ls
 ended_size [] = refl
-ended_size (l ∷ ls) = omega (arith, ended_size ls, length-append (l ++ 10 ∷ []) (ended ls), length-append l (10 ∷ []))
+ended_size (l ∷ ls) = omega (arith, ended_size ls, length-append (l ++ 10 ∷ []) (lines_text ls), length-append l (10 ∷ []))
 
 joined_size : (ls : List (List ℕ)) → length (join_with_byte 10 ls) ≤ size ls
 joined_size [] = omega arith
 joined_size (l ∷ []) = omega arith
 joined_size (l ∷ m ∷ ls) = omega (arith, joined_size (m ∷ ls), length-append l (10 ∷ join_with_byte 10 (m ∷ ls)))
 
-service_in : (input : List ℕ) (o : Option (List (List ℕ) × List (List ℕ))) → IfSome o (AreFew (cut_lines input)) → length (option_map_or (λ (x : List (List ℕ) × List (List ℕ)). ended x.0) o input) ≤ length input
+service_in : (input : List ℕ) (o : Option (List (List ℕ) × List (List ℕ))) → IfSome o (AreFew (cut_lines input)) → length (option_map_or (λ (x : List (List ℕ) × List (List ℕ)). lines_text x.0) o input) ≤ length input
 service_in input None h = omega arith
 service_in input (Some x) h = let both = h.both in omega (arith, both, cut_size input, ended_size x.0)
 
-script_in : (input script : List ℕ) (o : Option (List (List ℕ) × List (List ℕ))) → IfSome o (AreFew (cut_lines input)) → joined o ≡ Some script → length script ≤ length input
+script_in : (input script : List ℕ) (o : Option (List (List ℕ) × List (List ℕ))) → IfSome o (AreFew (cut_lines input)) → text_behind o ≡ Some script → length script ≤ length input
 script_in input script None h e = cc
 script_in input script (Some x) h e =
     let both = h.both in
@@ -68,10 +68,10 @@ script_in input script (Some x) h e =
     omega (arith, both, cut_size input, joined_size x.1, ap length same)
 
 service_short : (input : List ℕ) → length (service_of input) ≤ length input
-service_short input = service_in input (parted (cut_lines input)) (parted_few (cut_lines input))
+service_short input = service_in input (line_parts (cut_lines input)) (parted_few (cut_lines input))
 
 script_short : (input script : List ℕ) → script_of input ≡ Some script → length script ≤ length input
-script_short input script e = script_in input script (parted (cut_lines input)) (parted_few (cut_lines input)) e
+script_short input script e = script_in input script (line_parts (cut_lines input)) (parted_few (cut_lines input)) e
 
 third_in : (rest second third : List ℕ) (o : Option (List ℕ)) → with_third (service_of rest) o ≡ Some (second, third) → (second ≡ service_of rest) × (o ≡ Some third)
 third_in rest second third None e = cc

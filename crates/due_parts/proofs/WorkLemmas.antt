@@ -42,9 +42,9 @@ use Rattle.wave_labels.specs.Labels.{label_of}
 use Rattle.due_parts.specs.declared.report.Report.{Report}
 use Rattle.due_parts.specs.declared.report.Report.TheVariants.{Listing}
 use Rattle.due_parts.specs.declared.runnable.Runnable.{Runnable}
-use Rattle.due_parts.specs.Accepted.{CanRun, IsJournalOf, IsReady, plan_with, point_of, ran, report_of, trace_of}
+use Rattle.due_parts.specs.Accepted.{CanRun, IsJournalOf, IsReady, plan_with, point_of, run_outcome, report_of, trace_of}
 use Rattle.due_parts.specs.Answers.{Only, with_text}
-use Rattle.due_parts.specs.Told.{IsDueFirst, IsDueFold, IsDueTold, IsDueTrace, point_behind, reported}
+use Rattle.due_parts.specs.Told.{IsDueFirst, IsDueFold, IsDueTold, IsDueTrace, point_behind, report_answer}
 use Rattle.due_parts.specs.Coded.{IsCoded}
 use Rattle.due_parts.specs.Served.{IsTypedTree}
 use Rattle.due_parts.proofs.DueLemmas.{only_fold}
@@ -101,7 +101,7 @@ module _ (tree : ServiceTree) (typed : Typed) (program : Program) (start : Start
   begins : IsStart program.shape script.hosts start
   begins = subst (λ s. IsStart s script.hosts start) (sym same_shape) begun
 
-  means : ran work ≡ results_at program.shape typed.resolved start script
+  means : run_outcome work ≡ results_at program.shape typed.resolved start script
   means = plan_means typed.resolved program code start script begins script_fits
 
   whole : IsWholeAt typed.shape typed.resolved start script
@@ -126,10 +126,10 @@ module _ (tree : ServiceTree) (typed : Typed) (program : Program) (start : Start
     saved = saved;
   }
 
-  same_told : (report : Report) → reported typed.shape start script report (results_at typed.shape typed.resolved start script) ≡ report_of work report
+  same_told : (report : Report) → report_answer typed.shape start script report (results_at typed.shape typed.resolved start script) ≡ report_of work report
   same_told report =
-      ap (λ s. reported s start script report (results_at s typed.resolved start script)) (sym same_shape)
-      ∙ ap (reported program.shape start script report) (sym means)
+      ap (λ s. report_answer s start script report (results_at s typed.resolved start script)) (sym same_shape)
+      ∙ ap (report_answer program.shape start script report) (sym means)
 
   -- a run of the crew, traced
   is_traced : (places : Places) (crew : Crew) (journal : List Label) → IsJournalOf crew work journal → IsDueTrace places crew tree start script (trace_of work places journal)
@@ -144,8 +144,8 @@ module _ (tree : ServiceTree) (typed : Typed) (program : Program) (start : Start
         finished_measured drives_measured finished_mean typed.resolved code crew.schedule (map label_of journal) run (results_at (shape_of tree) typed.resolved start script)
         (ap (λ s. results_at s typed.resolved start script) (sym (same_shape ∙ t.shape_is))));
     due_is =
-        ap (λ done. with_text (reported program.shape start script (Listing places) done) (journal_text program.shape journal)) means
-        ∙ ap (λ s. with_text (reported s start script (Listing places) (results_at s typed.resolved start script)) (journal_text s journal)) (same_shape ∙ t.shape_is);
+        ap (λ done. with_text (report_answer program.shape start script (Listing places) done) (journal_text program.shape journal)) means
+        ∙ ap (λ s. with_text (report_answer s start script (Listing places) (results_at s typed.resolved start script)) (journal_text s journal)) (same_shape ∙ t.shape_is);
   }
 
   pub ready : IsReady (λ telling. IsDueTold telling tree start script) work
@@ -156,5 +156,5 @@ module _ (tree : ServiceTree) (typed : Typed) (program : Program) (start : Start
   }
 
 -- what the evaluator gives of it is the same
-pub evaluated : (work : Runnable) → CanRun work → ran work ≡ results_at work.program.shape work.service work.start work.script
+pub evaluated : (work : Runnable) → CanRun work → run_outcome work ≡ results_at work.program.shape work.service work.start work.script
 evaluated work h = plan_means work.service work.program h.code work.start work.script h.begins (h.fits 1 (omega arith) (omega arith)).script

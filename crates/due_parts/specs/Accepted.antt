@@ -25,7 +25,7 @@ use Rattle.due_parts.specs.declared.report.Report.TheVariants.{Listing}
 use Rattle.due_parts.specs.declared.runnable.Runnable.{Runnable}
 use Rattle.due_parts.specs.Answers.{Only, with_text}
 use Rattle.due_parts.specs.Scripts.{IsDueScripted}
-use Rattle.due_parts.specs.Told.{point_behind, reported}
+use Rattle.due_parts.specs.Told.{point_behind, report_answer}
 use Rattle.due_parts.specs.Runs.{IsRunOf, nearest_workers}
 
 -- the plan of so many workers
@@ -39,12 +39,12 @@ pub record HasCode (plan : Plan) : Type 0 where
   pub fits : Fits plan
 
 -- what its script gives from its Start, with calls run by their code
-abbrev pub ran : Runnable → Finished
-ran work = finished_of (code_ran work.program) work.program.shape work.start work.script
+abbrev pub run_outcome : Runnable → Finished
+run_outcome work = finished_of (code_ran work.program) work.program.shape work.start work.script
 
 -- a report of that
 abbrev pub report_of : Runnable → Report → Answer
-report_of work report = reported work.program.shape work.start work.script report (ran work)
+report_of work report = report_answer work.program.shape work.start work.script report (run_outcome work)
 
 -- what is told of it where it is traced, with this journal
 abbrev pub trace_of : Runnable → Places → List Label → Answer
@@ -52,7 +52,7 @@ trace_of work places journal = with_text (report_of work (Listing places)) (jour
 
 -- where it has come to then
 abbrev pub point_of : Runnable → Checkpoint
-point_of work = point_behind work.start work.script (ran work)
+point_of work = point_behind work.start work.script (run_outcome work)
 
 -- the labels of a journal are a run of the crew
 abbrev pub IsJournalOf : Crew → Runnable → List Label → Type 0
@@ -70,7 +70,7 @@ pub record CanRun (work : Runnable) : Type 0 where
   pub code : IsCode work.service work.program
   pub fits : (workers : ℕ) → 1 ≤ workers → workers ≤ WORKERS → Fits (plan_with work workers)
   pub begins : IsStart work.program.shape work.script.hosts work.start
-  pub few : work.start.next.0 + length (ran work).results ≤ 2 ^ 32
+  pub few : work.start.next.0 + length (run_outcome work).results ≤ 2 ^ 32
   pub runs : (crew : Crew) → (journal : List Label) × IsJournalOf crew work journal
   pub saved : work.start ≡ first_start work.program.shape → IsPoint work.program.shape (point_of work)
 

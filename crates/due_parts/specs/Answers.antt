@@ -15,8 +15,8 @@ no_script = refusal 3 (codes "NoScript")
 abbrev pub too_large_script : Answer
 too_large_script = refusal 4 (codes "TooLarge script")
 
-abbrev pub written : List ℕ → Answer
-written text = record { status = 0; note = []; text = text }
+abbrev pub text_answer : List ℕ → Answer
+text_answer text = record { status = 0; note = []; text = text }
 
 -- a text behind that of an answer
 abbrev pub with_text : Answer → List ℕ → Answer

@@ -58,15 +58,15 @@ report_text shape start script Summary done = summary_text done.results
 report_text shape start script Point done = checkpoint_text shape (point_behind start script done)
 
 -- what was done is told; the status tells whether something trapped
-abbrev pub reported : Shape → Start → Script → Report → Finished → Answer
-reported shape start script report done = record { status = if any_trap done.results then 1 else 0; note = []; text = report_text shape start script report done }
+abbrev pub report_answer : Shape → Start → Script → Report → Finished → Answer
+report_answer shape start script report done = record { status = if any_trap done.results then 1 else 0; note = []; text = report_text shape start script report done }
 
 -- of a script that was read: what its fold from a Start, to its end, on the service with each name resolved has done
 pub record IsDueFold (report : Report) (tree : ServiceTree) (start : Start) (script : Script) (due : Answer) : Type 0 where
   pub service : Resolved
   pub resolved : resolved_view service ≡ resolve_service tree
   pub whole : IsWholeAt (shape_of tree) service start script
-  pub due_is : due ≡ reported (shape_of tree) start script report (results_at (shape_of tree) service start script)
+  pub due_is : due ≡ report_answer (shape_of tree) start script report (results_at (shape_of tree) service start script)
 
 -- the plan of a crew, with the service's code
 abbrev pub plan_for : Crew → Shape → Resolved → Script → Plan
@@ -80,7 +80,7 @@ pub record IsDueTrace (places : Places) (crew : Crew) (tree : ServiceTree) (star
   pub journal : List Label
   pub run : IsRunOf crew (plan_for crew (shape_of tree) service script) start (map label_of journal)
   pub comes_to : ComesTo (plan_for crew (shape_of tree) service script) start (map label_of journal) (results_at (shape_of tree) service start script)
-  pub due_is : due ≡ with_text (reported (shape_of tree) start script (Listing places) (results_at (shape_of tree) service start script)) (journal_text (shape_of tree) journal)
+  pub due_is : due ≡ with_text (report_answer (shape_of tree) start script (Listing places) (results_at (shape_of tree) service start script)) (journal_text (shape_of tree) journal)
 
 -- what is told of a script that was read: a report of its fold; or the listing, and the journal of a run of this crew
 abbrev pub IsDueTold : Telling → ServiceTree → Start → Script → Answer → Type 0

@@ -4,11 +4,11 @@ ghost use Rattle.std.specs.Prelude.{◌≡◌, IfOk};
 ghost use Rattle.wave_base.specs.Starts.{first_start};
 ghost use Rattle.due_parts.specs.Accepted.{IsAccepted};
 
-use crate::answer::refused;
+use crate::answer::refusal_answer;
 use crate::refusal::Refusal;
 use crate::runnable::Runnable;
 use crate::script::accept_script;
-use crate::service::served;
+use crate::service::service_of_text;
 use input_parts::parts_of;
 use std::alloc::Global;
 
@@ -20,9 +20,9 @@ pub fn accept(alloc: Global, input: &[u8]) -> Result<Runnable, Refusal>
 {
     let (text, script) = parts_of(input);
     let Some(script) = script else {
-        return Err(Refusal::Due(refused(alloc, 3, b"NoScript")?));
+        return Err(Refusal::Due(refusal_answer(alloc, 3, b"NoScript")?));
     };
-    match served(alloc, text) {
+    match service_of_text(alloc, text) {
         Ok((typed, program)) => accept_script(alloc, typed, program, script),
         Err(refusal) => Err(refusal),
     }

@@ -1,7 +1,7 @@
 //! An answer that needs no run.
 
 ghost use Rattle.std.specs.Prelude.{◌≡◌, IfOk};
-ghost use Rattle.due_parts.specs.Answers.{refusal, too_large_input, written};
+ghost use Rattle.due_parts.specs.Answers.{refusal, too_large_input, text_answer};
 
 use std::alloc::Global;
 use wave_base::{OutOfMemory, Seq};
@@ -18,7 +18,7 @@ pub struct Answer {
 }
 
 /// A refusal with this status and note.
-pub fn refused(alloc: Global, status: u8, note: &[u8]) -> Result<Answer, OutOfMemory>
+pub fn refusal_answer(alloc: Global, status: u8, note: &[u8]) -> Result<Answer, OutOfMemory>
     ensures { IfOk result (λ a. a ≡ refusal status note.now) }
 {
     let note = Vec::from_slice(alloc, note)?;
@@ -33,12 +33,12 @@ pub fn refused(alloc: Global, status: u8, note: &[u8]) -> Result<Answer, OutOfMe
 pub fn too_large(alloc: Global) -> Result<Answer, OutOfMemory>
     ensures { IfOk result (λ a. a ≡ too_large_input) }
 {
-    refused(alloc, 3, b"TooLarge input")
+    refusal_answer(alloc, 3, b"TooLarge input")
 }
 
 /// A text that is written, with nothing to tell.
-pub fn written(alloc: Global, text: Seq<u8>) -> Answer
-    ensures { result ≡ written text }
+pub fn text_answer(alloc: Global, text: Seq<u8>) -> Answer
+    ensures { result ≡ text_answer text }
 {
     Answer {
         status: 0,

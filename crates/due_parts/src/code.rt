@@ -5,7 +5,7 @@ ghost use Rattle.resolved_service.specs.Fits.{FitsService};
 ghost use Rattle.code_scheme.specs.Typed.{IsTyped};
 ghost use Rattle.due_parts.specs.Coded.{IsCompiled, IsLongNamed, name_at};
 
-use crate::answer::{Answer, refused};
+use crate::answer::{Answer, refusal_answer};
 use crate::refusal::Refusal;
 use context_types::Typed;
 use service_compiler::{CompileError, compile_verified};
@@ -38,7 +38,7 @@ fn refused_code(alloc: Global, typed: &Typed, number: u16) -> Result<Answer, Out
 {
     let mut note = Vec::from_slice(alloc, b"C1 CodeTooLong ")?;
     put_name(&mut note, typed, number)?;
-    refused(alloc, 3, note.as_slice())
+    refusal_answer(alloc, 3, note.as_slice())
 }
 
 /// Compiles a typed service. It is refused where a function is too long.

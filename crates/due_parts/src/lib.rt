@@ -15,13 +15,13 @@ mod told;
 mod traces;
 
 pub use accepted::accept;
-pub use answer::{Answer, refused, too_large, written};
+pub use answer::{Answer, refusal_answer, text_answer, too_large};
 pub use parts::three_parts;
 pub use refusal::Refusal;
 pub use report::Report;
 pub use runnable::Runnable;
 pub use script::{ready, refused_script};
-pub use service::served;
+pub use service::service_of_text;
 pub use telling::Telling;
-pub use told::{saved, status_of, summed};
+pub use told::{point_answer, status_of, summary_answer};
 pub use traces::runs_have_paths;

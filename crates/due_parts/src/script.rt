@@ -17,7 +17,7 @@ ghost use Rattle.due_parts.specs.Coded.{IsCoded};
 ghost use Rattle.due_parts.specs.Served.{IsTypedTree};
 ghost use Rattle.wave_base.specs.Memory.{the_refusal};
 
-use crate::answer::{Answer, refused};
+use crate::answer::{Answer, refusal_answer};
 use crate::refusal::Refusal;
 use crate::runnable::Runnable;
 use code_meaning::finished_states_mean;
@@ -39,7 +39,7 @@ pub fn refused_script(alloc: Global, error: &ScriptError) -> Result<Answer, OutO
     ensures told { IfOk result (λ _. error.now ≢ ScriptError.OutOfMemory the_refusal) }
 {
     let note = script_note(alloc, error)?;
-    refused(alloc, 4, note.as_slice())
+    refusal_answer(alloc, 4, note.as_slice())
 }
 
 /// A script that was read, with its service, the code, and the Start: it can be run, and what is told of it is due.
@@ -102,7 +102,7 @@ pub fn accept_script(
     ensures first { program.shape ≡ typed.shape → IfOk result (λ work. work.start ≡ first_start work.program.shape) }
 {
     if text.len() > SCRIPT_BYTES {
-        return Err(Refusal::Due(refused(alloc, 4, b"TooLarge script")?));
+        return Err(Refusal::Due(refusal_answer(alloc, 4, b"TooLarge script")?));
     }
     accept_lines(alloc, typed, program, text)
 }

@@ -11,7 +11,7 @@ ghost use Rattle.due_parts.specs.Answers.{refusal};
 ghost use Rattle.due_parts.specs.Served.{IsChecked, IsServed, IsTypedTree};
 ghost use Rattle.wave_base.specs.Memory.{the_refusal};
 
-use crate::answer::{Answer, refused};
+use crate::answer::{Answer, refusal_answer};
 use crate::code::code_of;
 use crate::refusal::Refusal;
 use context_types::{Typed, check};
@@ -30,7 +30,7 @@ fn refused_text(alloc: Global, fault: &TextFault) -> Result<Answer, OutOfMemory>
     ensures told { IfOk result (λ _. fault.now ≢ TextFault.OutOfMemory the_refusal) }
 {
     let note = text_note(alloc, fault)?;
-    refused(alloc, 3, note.as_slice())
+    refusal_answer(alloc, 3, note.as_slice())
 }
 
 // The refusal of a service that isn't typed.
@@ -39,11 +39,11 @@ fn refused_types(alloc: Global, error: &TypeError) -> Result<Answer, OutOfMemory
     ensures told { IfOk result (λ _. error.now ≢ TypeError.OutOfMemory the_refusal) }
 {
     let note = type_note(alloc, error)?;
-    refused(alloc, 3, note.as_slice())
+    refusal_answer(alloc, 3, note.as_slice())
 }
 
 // A typed service with its code.
-fn coded(alloc: Global, typed: Typed) -> Result<(Typed, Verified), Refusal>
+fn compile_typed(alloc: Global, typed: Typed) -> Result<(Typed, Verified), Refusal>
     requires typed { (tree : ServiceTree) × IsTypedTree tree typed }
     requires few { length typed.resolved.methods + length typed.resolved.events < 2 ^ 16 }
     ensures { (tree : ServiceTree) → IsTypedTree tree typed → IsChecked tree result }
@@ -55,24 +55,24 @@ fn coded(alloc: Global, typed: Typed) -> Result<(Typed, Verified), Refusal>
 }
 
 // A service, checked.
-fn checked(alloc: Global, service: Service) -> Result<(Typed, Verified), Refusal>
+fn check_service(alloc: Global, service: Service) -> Result<(Typed, Verified), Refusal>
     requires few { IsFew (service_tree service) }
     requires parsed { IsParsed (service_tree service) }
     ensures { IsChecked (service_tree service) result }
 {
     typed_services_have_names();
     match check(alloc, service) {
-        Ok(typed) => coded(alloc, typed),
+        Ok(typed) => compile_typed(alloc, typed),
         Err(error) => Err(Refusal::Due(refused_types(alloc, &error)?)),
     }
 }
 
 /// A text as a typed service with its code. A refusal is that of its first fault.
-pub fn served(alloc: Global, text: &[u8]) -> Result<(Typed, Verified), Refusal>
+pub fn service_of_text(alloc: Global, text: &[u8]) -> Result<(Typed, Verified), Refusal>
     ensures { IsServed text.now result }
 {
     match parse_text(alloc, text) {
-        Ok(service) => checked(alloc, service),
+        Ok(service) => check_service(alloc, service),
         Err(fault) => Err(Refusal::Due(refused_text(alloc, &fault)?)),
     }
 }

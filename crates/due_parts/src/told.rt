@@ -3,7 +3,7 @@
 ghost use Rattle.std.specs.Prelude.{◌≡◌, ◌≤◌, ◌+◌, if◌then◌else◌, length, sum_by, IfOk};
 ghost use Rattle.wave_base.specs.declared.limits.TheConstants.{EVENT_LINES, SAVED_TICKET};
 ghost use Rattle.checkpoint_store.specs.Points.{IsPoint};
-ghost use Rattle.due_parts.specs.Told.{any_trap, point_behind, reported};
+ghost use Rattle.due_parts.specs.Told.{any_trap, point_behind, report_answer};
 ghost use Rattle.due_parts.specs.declared.report.Report.{Report};
 ghost use Rattle.wave_base.specs.declared.script.Script.{Script};
 ghost use Rattle.wave_base.specs.declared.shape.Shape.{Shape};
@@ -32,8 +32,8 @@ pub fn status_of(results: &[EventResult]) -> u8
 }
 
 /// All that was done is summed up.
-pub fn summed(alloc: Global, done: &Finished) -> Result<Answer, OutOfMemory>
-    ensures { (shape : Shape) (start : Start) (script : Script) → IfOk result (λ a. a ≡ reported shape start script Report.Summary done.now) }
+pub fn summary_answer(alloc: Global, done: &Finished) -> Result<Answer, OutOfMemory>
+    ensures { (shape : Shape) (start : Start) (script : Script) → IfOk result (λ a. a ≡ report_answer shape start script Report.Summary done.now) }
 {
     let text = summarize(alloc, done.results.as_slice())?;
     Ok(Answer {
@@ -75,7 +75,7 @@ fn point_behind(start: &Start, script: &Script, done: Finished) -> Checkpoint
 }
 
 /// The point that a script leaves is written as a checkpoint.
-pub fn saved(
+pub fn point_answer(
     alloc: Global,
     shape: &Shape,
     start: &Start,
@@ -83,7 +83,7 @@ pub fn saved(
     done: Finished,
 ) -> Result<Answer, OutOfMemory>
     requires { IsPoint shape.now (point_behind start.now script.now done) }
-    ensures { IfOk result (λ a. a ≡ reported shape.now start.now script.now Report.Point done) }
+    ensures { IfOk result (λ a. a ≡ report_answer shape.now start.now script.now Report.Point done) }
 {
     let status = status_of(done.results.as_slice());
     let point = point_behind(start, script, done);

@@ -17,8 +17,8 @@ use Rattle.script_reader.specs.declared.said.Said.{Said}
 use Rattle.script_reader.specs.declared.said.Said.TheVariants.{Nothing, Unknown, Says}
 use Rattle.script_reader.specs.declared.taken.Taken.{Taken}
 use Rattle.script_reader.specs.declared.taken.Taken.TheVariants.{Skipped, Hosts, Event, Settle}
-use Rattle.script_reader.specs.Judged.{script_earlier, hosts_of, has_begun, event_lines, is_said, as_event, judged_event, requested, move_to}
-use Rattle.script_reader.specs.Scripts.{judged, judged_after, script_of, Goes, IsRead, refused}
+use Rattle.script_reader.specs.Judged.{script_earlier, hosts_of, has_begun, event_lines, is_said, as_event, judged_event, requested_call, move_to}
+use Rattle.script_reader.specs.Scripts.{judgment, judged_after, script_of, Goes, IsRead, error_at}
 
 no_event : (t : Bool) (l : Result Line Fault) (n : ℕ) → cond t (as_event l) (Err TooMany) ≡ Ok (Hosts n) → ⊥
 no_event true (Ok l) n e = cc
@@ -29,12 +29,12 @@ no_hosts : (events : ℕ) (l : Result Line Fault) (n : ℕ) → judged_event eve
 no_hosts events l n e = no_event (nat_lt events EVENT_LINES) l n e
 
 -- hosts are said first
-hosts_first : (shape : Shape) (hosts : ℕ) (begun : Bool) (events : ℕ) (s : Said) (n : ℕ) → judged shape hosts begun events s ≡ Ok (Hosts n) → begun ≡ false
+hosts_first : (shape : Shape) (hosts : ℕ) (begun : Bool) (events : ℕ) (s : Said) (n : ℕ) → judgment shape hosts begun events s ≡ Ok (Hosts n) → begun ≡ false
 hosts_first shape hosts begun events Nothing n e = cc
 hosts_first shape hosts begun events Unknown n e = cc
 hosts_first shape hosts true events (Says (form.Hosts m)) n e = cc
 hosts_first shape hosts false events (Says (form.Hosts m)) n e = refl
-hosts_first shape hosts begun events (Says (form.Request name args)) n e = absurd (no_hosts events (requested shape name args) n e)
+hosts_first shape hosts begun events (Says (form.Request name args)) n e = absurd (no_hosts events (requested_call shape name args) n e)
 hosts_first shape hosts begun events (Says (form.Move steps to)) n e = absurd (no_hosts events (move_to hosts (path_of shape steps) (number_of to)) n e)
 hosts_first shape hosts begun events (Says form.Snapshot) n e = absurd (no_hosts events (Ok line.Snapshot) n e)
 hosts_first shape hosts begun events (Says form.Settle) n e = cc
@@ -45,7 +45,7 @@ module _ (shape : Shape) (h m : ℕ) where
 
   line_stays : (before : List Taken) (ls : List (List ℕ)) (s : Script) (said : Said) (x : Result Taken Fault)
       → ((t : Taken) → hosts_of (script_earlier h m) (t ∷ before) ≡ h → IsRead shape (script_earlier h m) (t ∷ before) ls (Ok s) → s.hosts ≡ h) → hosts_of (script_earlier h m) before ≡ h
-      → judged_after shape (script_earlier h m) before said ≡ x → Goes x (λ t. IsRead shape (script_earlier h m) (t ∷ before) ls (Ok s)) (λ f. Ok s ≡ Err (refused f (length before + 1))) → s.hosts ≡ h
+      → judged_after shape (script_earlier h m) before said ≡ x → Goes x (λ t. IsRead shape (script_earlier h m) (t ∷ before) ls (Ok s)) (λ f. Ok s ≡ Err (error_at f (length before + 1))) → s.hosts ≡ h
   line_stays before ls s said (Err f) rec is j g = cc
   line_stays before ls s said (Ok (Hosts n)) rec is j g = (let first = hosts_first shape (hosts_of (script_earlier h m) before) (has_begun (script_earlier h m) before) (event_lines (script_earlier h m) before) said n j in let said_before = begun before in cc)
   line_stays before ls s said (Ok Skipped) rec is j g = rec Skipped is g

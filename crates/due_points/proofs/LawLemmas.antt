@@ -46,7 +46,7 @@ use Rattle.due_parts.specs.declared.answer.Answer.{Answer}
 use Rattle.due_parts.specs.declared.report.Report.{Report}
 use Rattle.due_parts.specs.declared.report.Report.TheVariants.{Listing, Point}
 use Rattle.due_parts.specs.Served.{IsTypedTree}
-use Rattle.due_parts.specs.Told.{IsDueFold, any_trap, is_listed, is_trap, reported}
+use Rattle.due_parts.specs.Told.{IsDueFold, any_trap, is_listed, is_trap, report_answer}
 use Rattle.due_parts.proofs.NameLemmas.{code_typed}
 use Rattle.due_parts.proofs.PointLemmas.{FewAreSaved}
 use Rattle.due_parts.proofs.WorkLemmas.{first_begins}
@@ -60,10 +60,10 @@ same_results shape x y start script e = ap (λ calls. finished_of (λ tree call.
 
 -- of a typed service, whichever resolved service it is told of
 told_is : (report : Report) (tree : ServiceTree) (typed : Typed) (start : Start) (script : Script) (due : Answer) → IsTypedTree tree typed → IsDueFold report tree start script due
-    → due ≡ reported typed.shape start script report (results_at typed.shape typed.resolved start script)
+    → due ≡ report_answer typed.shape start script report (results_at typed.shape typed.resolved start script)
 told_is report tree typed start script due t h =
-    h.due_is ∙ ap (reported (shape_of tree) start script report) (same_results (shape_of tree) h.service typed.resolved start script (h.resolved ∙ sym t.resolved_is))
-    ∙ ap (λ s. reported s start script report (results_at s typed.resolved start script)) (sym t.shape_is)
+    h.due_is ∙ ap (report_answer (shape_of tree) start script report) (same_results (shape_of tree) h.service typed.resolved start script (h.resolved ∙ sym t.resolved_is))
+    ∙ ap (λ s. report_answer s start script report (results_at s typed.resolved start script)) (sym t.shape_is)
 
 -- ---- the status
 
@@ -192,10 +192,10 @@ module _ (come : ScriptsCome) (are_cut : ScriptsAreCut) (stay_few : ScriptsStayF
   shots : AreShots typed.shape (point_after typed a).start.shots
   shots = leave_shots are.text are.lines tree typed.shape service a are.parses are.is_typed.shape_is are.is_typed.resolved_is are.reads are.is_typed.well_formed comes.begins
 
-  told_first : (report : Report) (script : Script) (due : Answer) → IsDueFold report tree (first_start (shape_of tree)) script due → due ≡ reported typed.shape first script report (results_at typed.shape service first script)
+  told_first : (report : Report) (script : Script) (due : Answer) → IsDueFold report tree (first_start (shape_of tree)) script due → due ≡ report_answer typed.shape first script report (results_at typed.shape service first script)
   told_first report script due h =
       told_is report tree typed (first_start (shape_of tree)) script due are.is_typed h
-      ∙ ap (λ s. reported typed.shape (first_start s) script report (results_at typed.shape service (first_start s) script)) (sym are.is_typed.shape_is)
+      ∙ ap (λ s. report_answer typed.shape (first_start s) script report (results_at typed.shape service (first_start s) script)) (sym are.is_typed.shape_is)
 
   module _ (places : Places) (saved resumed run : Answer) (point : Checkpoint) (due : AreDue tree typed a b places saved resumed run point) where
     abbrev one : Finished
@@ -207,10 +207,10 @@ module _ (come : ScriptsCome) (are_cut : ScriptsAreCut) (stay_few : ScriptsStayF
     abbrev whole : Finished
     whole = results_at typed.shape service first (both a b)
 
-    saved_told : saved ≡ reported typed.shape first a Point one
+    saved_told : saved ≡ report_answer typed.shape first a Point one
     saved_told = told_first Point a saved due.saved_is
 
-    run_told : run ≡ reported typed.shape first (both a b) (Listing places) whole
+    run_told : run ≡ report_answer typed.shape first (both a b) (Listing places) whole
     run_told = told_first (Listing places) (both a b) run due.run_is
 
     point_is : point ≡ point_after typed a
@@ -218,10 +218,10 @@ module _ (come : ScriptsCome) (are_cut : ScriptsAreCut) (stay_few : ScriptsStayF
         let same : ◌≡◌ {A = Result Checkpoint CheckError} (Ok (point_after typed a)) (Ok point) = due.point_is.1 (Ok (point_after typed a)) (record { spelled = ap (λ (x : Answer). x.text) saved_told; point = is_point; shots = shots }) in
         cc
 
-    resumed_told : resumed ≡ reported typed.shape left b (Listing places) other
+    resumed_told : resumed ≡ report_answer typed.shape left b (Listing places) other
     resumed_told =
         told_is (Listing places) tree typed point.start b resumed are.is_typed due.resumed_is
-        ∙ ap (λ (p : Checkpoint). reported typed.shape p.start b (Listing places) (results_at typed.shape service p.start b)) point_is
+        ∙ ap (λ (p : Checkpoint). report_answer typed.shape p.start b (Listing places) (results_at typed.shape service p.start b)) point_is
 
     any_same : any_trap whole.results ≡ (any_trap one.results || any_trap other.results)
     any_same = ap any_trap cut.joined.results ∙ any_more one.results other.results

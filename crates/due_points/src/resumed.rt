@@ -17,7 +17,9 @@ ghost use Rattle.due_points.specs.Resumed.{IsDueFrom, IsDuePoint, IsDueResumed};
 
 use checkpoint_store::{CheckError, Checkpoint, read_checkpoint};
 use context_types::Typed;
-use due_parts::{Answer, Refusal, Runnable, ready, refused, refused_script, served, three_parts};
+use due_parts::{
+    Answer, Refusal, Runnable, ready, refusal_answer, refused_script, service_of_text, three_parts,
+};
 use fault_notes::check_note;
 use script_reader::read_script_at;
 use service_verify::Verified;
@@ -29,7 +31,7 @@ fn refused_point(alloc: Global, error: &CheckError) -> Result<Answer, OutOfMemor
     ensures told { IfOk result (λ _. error.now ≢ CheckError.OutOfMemory the_refusal) }
 {
     let note = check_note(alloc, error)?;
-    refused(alloc, 8, note.as_slice())
+    refusal_answer(alloc, 8, note.as_slice())
 }
 
 /// Reads a service, a checkpoint and a script. A refusal that is due is the only answer that is, whatever is to be told; and where there is
@@ -40,9 +42,9 @@ pub fn accept_resumed(alloc: Global, input: &[u8]) -> Result<Runnable, Refusal>
 {
     let (text, parts) = three_parts(input);
     let Some((point, script)) = parts else {
-        return Err(Refusal::Due(refused(alloc, 3, b"NoScript")?));
+        return Err(Refusal::Due(refusal_answer(alloc, 3, b"NoScript")?));
     };
-    match served(alloc, text) {
+    match service_of_text(alloc, text) {
         Ok((typed, program)) => accept_point(alloc, typed, program, point, script),
         Err(refusal) => Err(refusal),
     }
@@ -80,7 +82,7 @@ fn accept_from(
     ensures { (tree : ServiceTree) → IsTypedTree tree typed → IsCoded typed.shape typed.resolved program → IsAcceptedBy (λ telling. IsDueFrom telling tree text.now point) result }
 {
     if text.len() > SCRIPT_BYTES {
-        return Err(Refusal::Due(refused(alloc, 4, b"TooLarge script")?));
+        return Err(Refusal::Due(refusal_answer(alloc, 4, b"TooLarge script")?));
     }
     match read_script_at(alloc, &typed.shape, text, point.hosts, point.lines) {
         Ok(script) => Ok(ready(typed, program, point.start, script)),

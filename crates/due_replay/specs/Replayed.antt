@@ -18,7 +18,7 @@ use Rattle.journal_replay.specs.declared.replaying.Replayed.{Replayed}
 use Rattle.journal_replay.specs.Replays.{IsOutcome}
 use Rattle.journal_replay.specs.Reports.{refused_text, replayed_text}
 use Rattle.due_parts.specs.declared.answer.Answer.{Answer}
-use Rattle.due_parts.specs.Answers.{refusal, written}
+use Rattle.due_parts.specs.Answers.{refusal, text_answer}
 use Rattle.due_parts.specs.Scripts.{IsDueScript, IsDueThree}
 use Rattle.due_parts.specs.Told.{plan_for}
 
@@ -28,7 +28,7 @@ refused_label shape step enabled = record { status = 11; note = codes "Refused";
 
 -- of what the replay comes to
 abbrev pub IsDueOutcome : Shape → Result Replayed ReplayError → Answer → Type 0
-IsDueOutcome shape (Ok r) due = due ≡ written (replayed_text shape r)
+IsDueOutcome shape (Ok r) due = due ≡ text_answer (replayed_text shape r)
 IsDueOutcome shape (Err (Refused step label enabled)) due = due ≡ refused_label shape step enabled
 IsDueOutcome shape (Err (OutOfMemory _)) due = ⊥
 

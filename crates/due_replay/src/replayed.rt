@@ -23,7 +23,9 @@ ghost use Rattle.due_replay.specs.inner.Trees.{HasTree};
 
 use command_words::Crew;
 use context_types::Typed;
-use due_parts::{Answer, Refusal, refused, refused_script, served, three_parts, written};
+use due_parts::{
+    Answer, Refusal, refusal_answer, refused_script, service_of_text, text_answer, three_parts,
+};
 use fault_notes::journal_note;
 use journal_replay::{ReplayError, refused_text, replay, replayed_text};
 use journal_text::{JournalError, read_journal};
@@ -48,7 +50,7 @@ fn refused_journal(alloc: Global, error: &JournalError) -> Result<Answer, OutOfM
     ensures told { IfOk result (λ _. error.now ≢ JournalError.OutOfMemory the_refusal) }
 {
     let note = journal_note(alloc, error)?;
-    refused(alloc, 10, note.as_slice())
+    refusal_answer(alloc, 10, note.as_slice())
 }
 
 /// What is due for a journal that a crew replays, and that is shown after so many labels, or after the last where there are fewer.
@@ -58,9 +60,9 @@ pub fn judge_replay(alloc: Global, show: u64, crew: Crew, input: &[u8]) -> Resul
 {
     let (text, parts) = three_parts(input);
     let Some((script, journal)) = parts else {
-        return Err(Refusal::Due(refused(alloc, 3, b"NoScript")?));
+        return Err(Refusal::Due(refusal_answer(alloc, 3, b"NoScript")?));
     };
-    match served(alloc, text) {
+    match service_of_text(alloc, text) {
         Ok((typed, program)) => {
             judge_script(alloc, Asked { show, crew }, typed, program, script, journal)
         }
@@ -84,7 +86,7 @@ fn judge_script(
     ensures { (tree : ServiceTree) → IsTypedTree tree typed → IsCoded typed.shape typed.resolved program → IsOnlyDueOf (IsDueScript (λ t s. IsDueJournal (IsDueReplay asked.show asked.crew t s) (shape_of t) journal.now) script.now tree) result }
 {
     if script.len() > SCRIPT_BYTES {
-        return Err(Refusal::Due(refused(alloc, 4, b"TooLarge script")?));
+        return Err(Refusal::Due(refusal_answer(alloc, 4, b"TooLarge script")?));
     }
     match read_script(alloc, &typed.shape, script) {
         Ok(script) => judge_journal(alloc, asked, typed, program, script, journal),
@@ -134,7 +136,7 @@ fn judge_labels(
 {
     let shape = &plan.program.program().shape;
     match replay(alloc, plan, journal, show.min(u64::from(u32::MAX)) as u32) {
-        Ok(replayed) => Ok(written(alloc, replayed_text(alloc, shape, &replayed)?)),
+        Ok(replayed) => Ok(text_answer(alloc, replayed_text(alloc, shape, &replayed)?)),
         Err(ReplayError::Refused { step, enabled, .. }) => {
             refused_label(alloc, shape, step, &enabled)
         }

@@ -31,13 +31,13 @@ use Rattle.command_words.specs.declared.command.Places.{Places}
 use Rattle.command_words.specs.declared.command.Places.TheVariants.{Unlisted, Listed}
 use Rattle.elastic_policy.specs.Expansions.{script_of}
 use Rattle.elastic_policy.specs.Moves.{policy_moves}
-use Rattle.elastic_policy.specs.Stages.{Staged, Turn, batches_alone, batches_turn, first_staged, next_of, no_loads, part_turn, passed, piece_of, staged_after, MayFollow}
-use Rattle.elastic_meaning.specs.Walks.{AreAt, IsDone, IsFront, IsPiece, IsUntold, expanded, told_of}
+use Rattle.elastic_policy.specs.Stages.{Staged, Turn, batches_alone, batches_turn, first_staged, next_of, no_loads, part_turn, stages_left, piece_of, staged_after, MayFollow}
+use Rattle.elastic_meaning.specs.Walks.{AreAt, IsDone, IsFront, IsPiece, IsUntold, expanded_script, told_of}
 use Rattle.due_parts.specs.Told.{any_trap, is_listed, is_trap}
 use Rattle.due_stages.specs.declared.work.StagedWork.{StagedWork}
 use Rattle.due_stages.specs.Accepted.{CanStage}
 use Rattle.due_stages.specs.Elastic.{listed_of}
-use Rattle.due_stages.specs.Listed.{end_from, events_from, placed, ran_by, told_as, turns_left, turns_of, IsFrontListed, IsListedTo, IsPieceListed, IsWholeListed}
+use Rattle.due_stages.specs.Listed.{end_from, events_from, listed_places, ran_by, told_as, turns_left, turns_of, IsFrontListed, IsListedTo, IsPieceListed, IsWholeListed}
 use Rattle.due_stages.proofs.ListedLemmas.{as_many_made, as_many_names, lines_joined}
 
 -- ---- what is known of pieces
@@ -98,8 +98,8 @@ turn_fewer hosts places loads [] = tt
 turn_fewer hosts places loads (part ∷ left) =
     part_fewer hosts loads part left (next_of hosts places (no_loads (length places)) left) (turn_fewer hosts places (no_loads (length places)) left) (policy_moves hosts part.policy (zip places loads)) (no_moves hosts part.policy (zip places loads))
 
-piece_fewer : (s : Staged) (script : Script) → piece_of s ≡ Some script → turns_left (passed s) < turns_left s
-piece_fewer s script e = subst (λ o. IsFewer o (turns_left (passed s)) (turns_left s)) e (turn_fewer s.hosts s.start.places s.loads s.left)
+piece_fewer : (s : Staged) (script : Script) → piece_of s ≡ Some script → turns_left (stages_left s) < turns_left s
+piece_fewer s script e = subst (λ o. IsFewer o (turns_left (stages_left s)) (turns_left s)) e (turn_fewer s.hosts s.start.places s.loads s.left)
 
 -- ---- along the pieces
 
@@ -111,7 +111,7 @@ module _ (service : Resolved) (program : Program) (elastic : Elastic) where
   told done = told_of service program elastic done
 
   abbrev whole : Finished
-  whole = results_of program.shape service (expanded program.shape service elastic)
+  whole = results_of program.shape service (expanded_script program.shape service elastic)
 
   -- before the first piece
   listed_first : (s : Staged) → AreAt service program elastic [] s → IsUntold (first_start program.shape) (told []) → IsListedTo service program elastic s [] false
@@ -150,8 +150,8 @@ module _ (service : Resolved) (program : Program) (elastic : Elastic) where
     module _ (script : Script) (p : IsPiece service program elastic done s script) where
       record IsRunListed (f : Finished) : Type 0 where
         few : s.start.next.0 + length f.results ≤ 2 ^ 32
-        follows : MayFollow (passed s) f
-        next : IsListedTo service program elastic (staged_after (passed s) f) (text ++ events_from program.shape s.start.next.0 f) (trapped || any_trap f.results)
+        follows : MayFollow (stages_left s) f
+        next : IsListedTo service program elastic (staged_after (stages_left s) f) (text ++ events_from program.shape s.start.next.0 f) (trapped || any_trap f.results)
 
       abbrev meant : Finished
       meant = results_at program.shape service s.start script
@@ -197,7 +197,7 @@ module _ (service : Resolved) (program : Program) (elastic : Elastic) where
 
     -- ---- where no piece is left
 
-    placed_same : (places : Places) → places_of one (is_listed places) ≡ placed places s.start
+    placed_same : (places : Places) → places_of one (is_listed places) ≡ listed_places places s.start
     placed_same Unlisted = refl
     placed_same Listed = ap (λ (t : Start). Some t.places) (sym l.at.start)
 
@@ -250,6 +250,6 @@ pub is_within : PiecesAreFronts → (service : Resolved) (program : Program) (el
 is_within fronts service program elastic s text trapped script n p places =
     let ran : Finished = ran_by program s.start script in
     let more : List ℕ = events_from program.shape s.start.next.0 ran in
-    let w = with_rest service program elastic (staged_after (passed s) ran) (text ++ more) (trapped || any_trap ran.results) fronts p.next places in
+    let w = with_rest service program elastic (staged_after (stages_left s) ran) (text ++ more) (trapped || any_trap ran.results) fronts p.next places in
     let cut : text ++ more ≡ (text ++ take n more) ++ drop n more = ap (λ z. text ++ z) (sym (take-append-drop n more)) ∙ sym (append_assoc text (take n more) (drop n more)) in
     front_of (text ++ take n more) (drop n more ++ w.0) (listed_of program.shape service elastic places).text (w.1 ∙ ap (λ z. z ++ w.0) cut ∙ append_assoc (text ++ take n more) (drop n more) w.0)

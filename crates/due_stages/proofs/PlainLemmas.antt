@@ -37,7 +37,7 @@ use Rattle.script_reader.specs.Forms.{form_word}
 use Rattle.script_reader.specs.inner.Begins.{first_run, is_form_word}
 use Rattle.script_reader.specs.Pieces.{without_blanks}
 use Rattle.script_reader.specs.Policies.{HasNoPolicyForm, policy_word}
-use Rattle.script_reader.specs.Scripts.{IsSaid, judged, judged_after, open_batch, closed_batches, with_batch, Goes, IsRead, refused, IsScriptOf}
+use Rattle.script_reader.specs.Scripts.{IsSaid, judgment, judged_after, open_batch, closed_batches, with_batch, Goes, IsRead, error_at, IsScriptOf}
 use Rattle.script_reader.specs.Scripts as scripts
 use Rattle.script_reader.proofs.FormLemmas.{form_words}
 use Rattle.script_reader.proofs.FrontLemmas.{front_run}
@@ -48,7 +48,7 @@ use Rattle.due_parts.specs.declared.report.Report.TheVariants.{Listing}
 use Rattle.due_parts.specs.declared.telling.Telling.TheVariants.{Reports}
 use Rattle.due_parts.specs.Scripts.{IsDueBehind, IsDueLines, IsDueRead, IsDueScript, IsDueScripted}
 use Rattle.due_parts.specs.Services.{AreShort, IsDueCoded, IsDueOf, IsDueService, IsDueTyped, IsLong}
-use Rattle.due_parts.specs.Told.{IsDueFirst, reported}
+use Rattle.due_parts.specs.Told.{IsDueFirst, report_answer}
 use Rattle.due_stages.specs.Elastic.{IsDueElastic, IsDueElasticLines, IsDueElasticRead, IsDueElasticScript, IsDueExpansion, listed_of}
 use Rattle.due_stages.specs.Plain.{HasNoPolicy, HasPlainScript}
 
@@ -107,17 +107,17 @@ elastic_same ts =
     }
 
 judged_same : (shape : Shape) (ts : List Taken) (s : Said) → judged_told shape (plain ts) (worded.Plain s) ≡ as_plain (judged_after shape nothing_earlier ts s)
-judged_same shape ts s = λ i. as_plain (judged shape (hosts_same ts i) (begun_same ts i) (count_same ts i) s)
+judged_same shape ts s = λ i. as_plain (judgment shape (hosts_same ts i) (begun_same ts i) (count_same ts i) s)
 
-refused_same : (ts : List Taken) (f : Fault) → refused f (length (plain ts) + 1) ≡ refused f (length ts + 1)
-refused_same ts f = ap (λ n. refused f (n + 1)) (many_same ts)
+refused_same : (ts : List Taken) (f : Fault) → error_at f (length (plain ts) + 1) ≡ error_at f (length ts + 1)
+refused_same ts f = ap (λ n. error_at f (n + 1)) (many_same ts)
 
 -- what is read as a script is read so with policies too
 module _ (shape : Shape) where
   one_there : (ts : List Taken) (ls : List (List ℕ)) (r : Result Script ScriptError) (v : Result Taken Fault)
       → ((t : Taken) → IsRead shape nothing_earlier (t ∷ ts) ls r → IsReadElastic shape (plain (t ∷ ts)) ls (as_elastic r))
-      → Goes v (λ t. IsRead shape nothing_earlier (t ∷ ts) ls r) (λ f. r ≡ Err (refused f (length ts + 1)))
-      → Leads (as_plain v) (λ u. IsReadElastic shape (u ∷ plain ts) ls (as_elastic r)) (λ f. as_elastic r ≡ Err (refused f (length (plain ts) + 1)))
+      → Goes v (λ t. IsRead shape nothing_earlier (t ∷ ts) ls r) (λ f. r ≡ Err (error_at f (length ts + 1)))
+      → Leads (as_plain v) (λ u. IsReadElastic shape (u ∷ plain ts) ls (as_elastic r)) (λ f. as_elastic r ≡ Err (error_at f (length (plain ts) + 1)))
   one_there ts ls r (Ok t) more g = more t g
   one_there ts ls r (Err f) more g = ap as_elastic g ∙ ap (λ e. Err e) (sym (refused_same ts f))
 
@@ -126,7 +126,7 @@ module _ (shape : Shape) where
   there ts (l ∷ ls) r free k = (
     worded.Plain k.0,
     (k.1, All-head HasNoPolicyForm l ls free),
-    subst (λ x. Leads x (λ u. IsReadElastic shape (u ∷ plain ts) ls (as_elastic r)) (λ f. as_elastic r ≡ Err (refused f (length (plain ts) + 1)))) (sym (judged_same shape ts k.0))
+    subst (λ x. Leads x (λ u. IsReadElastic shape (u ∷ plain ts) ls (as_elastic r)) (λ f. as_elastic r ≡ Err (error_at f (length (plain ts) + 1)))) (sym (judged_same shape ts k.0))
         (one_there ts ls r (judged_after shape nothing_earlier ts k.0) (λ t m. there (t ∷ ts) ls r (All-tail HasNoPolicyForm l ls free) m) k.2),
   )
 
@@ -136,21 +136,21 @@ module _ (shape : Shape) where
 
   one_back : (ts : List Taken) (l : List ℕ) (ls : List (List ℕ)) (e : Result Elastic ScriptError) (s : Said) → IsSaid l s → (v : Result Taken Fault) → judged_after shape nothing_earlier ts s ≡ v
       → ((t : Taken) → IsReadElastic shape (plain (t ∷ ts)) ls e → IsBack (t ∷ ts) ls e)
-      → Leads (as_plain v) (λ u. IsReadElastic shape (u ∷ plain ts) ls e) (λ f. e ≡ Err (refused f (length (plain ts) + 1)))
+      → Leads (as_plain v) (λ u. IsReadElastic shape (u ∷ plain ts) ls e) (λ f. e ≡ Err (error_at f (length (plain ts) + 1)))
       → IsBack ts (l ∷ ls) e
   one_back ts l ls e s is (Ok t) j more g =
       let b = more t g in
-      (b.0, (s, is, subst (λ v. Goes v (λ t. IsRead shape nothing_earlier (t ∷ ts) ls b.0) (λ f. b.0 ≡ Err (refused f (length ts + 1)))) (sym j) b.1), b.2)
+      (b.0, (s, is, subst (λ v. Goes v (λ t. IsRead shape nothing_earlier (t ∷ ts) ls b.0) (λ f. b.0 ≡ Err (error_at f (length ts + 1)))) (sym j) b.1), b.2)
   one_back ts l ls e s is (Err f) j more g =
-      let r : Result Script ScriptError = Err (refused f (length ts + 1)) in
-      (r, (s, is, subst (λ v. Goes v (λ t. IsRead shape nothing_earlier (t ∷ ts) ls r) (λ f. r ≡ Err (refused f (length ts + 1)))) (sym j) refl), g ∙ ap (λ x. Err x) (refused_same ts f))
+      let r : Result Script ScriptError = Err (error_at f (length ts + 1)) in
+      (r, (s, is, subst (λ v. Goes v (λ t. IsRead shape nothing_earlier (t ∷ ts) ls r) (λ f. r ≡ Err (error_at f (length ts + 1)))) (sym j) refl), g ∙ ap (λ x. Err x) (refused_same ts f))
 
   any_back : (ts : List Taken) (l : List ℕ) (ls : List (List ℕ)) (e : Result Elastic ScriptError) → HasNoPolicyForm l → ((t : Taken) → IsReadElastic shape (plain (t ∷ ts)) ls e → IsBack (t ∷ ts) ls e) → (w : Worded) → IsWorded l w
-      → Leads (judged_told shape (plain ts) w) (λ t. IsReadElastic shape (t ∷ plain ts) ls e) (λ f. e ≡ Err (refused f (length (plain ts) + 1))) → IsBack ts (l ∷ ls) e
+      → Leads (judged_told shape (plain ts) w) (λ t. IsReadElastic shape (t ∷ plain ts) ls e) (λ f. e ≡ Err (error_at f (length (plain ts) + 1))) → IsBack ts (l ∷ ls) e
   any_back ts l ls e none more (worded.Policy form) is g = absurd (none form is)
   any_back ts l ls e none more (worded.Plain s) is g =
       one_back ts l ls e s is.0 (judged_after shape nothing_earlier ts s) refl more
-      (subst (λ x. Leads x (λ t. IsReadElastic shape (t ∷ plain ts) ls e) (λ f. e ≡ Err (refused f (length (plain ts) + 1)))) (judged_same shape ts s) g)
+      (subst (λ x. Leads x (λ t. IsReadElastic shape (t ∷ plain ts) ls e) (λ f. e ≡ Err (error_at f (length (plain ts) + 1)))) (judged_same shape ts s) g)
 
   back : (ts : List Taken) (ls : List (List ℕ)) (e : Result Elastic ScriptError) → All HasNoPolicyForm ls → IsReadElastic shape (plain ts) ls e → IsBack ts ls e
   back ts [] e free k = (Ok (scripts.script_of nothing_earlier ts), refl, k ∙ ap (λ z. Ok z) (elastic_same ts))
@@ -158,7 +158,7 @@ module _ (shape : Shape) where
 
 -- ---- what is read as a script has no policy
 
-no_policy : (shape : Shape) (hosts : ℕ) (begun : Bool) (events : ℕ) (line : List ℕ) (s : Said) (t : Taken) → IsSaid line s → judged shape hosts begun events s ≡ Ok t → HasNoPolicyForm line
+no_policy : (shape : Shape) (hosts : ℕ) (begun : Bool) (events : ℕ) (line : List ℕ) (s : Said) (t : Taken) → IsSaid line s → judgment shape hosts begun events s ≡ Ok t → HasNoPolicyForm line
 no_policy shape hosts begun events line Nothing t is j f k = false≢true (sym (not_skipped line (policy_word f) (front_run (without_blanks line) (policy_word f) k.cut.0 k.cut.1) (policy_words f)) ∙ is)
 no_policy shape hosts begun events line Unknown t is j f k = cc
 no_policy shape hosts begun events line (Says g) t is j f k =
@@ -169,7 +169,7 @@ no_policy shape hosts begun events line (Says g) t is j f k =
 module _ (shape : Shape) (script : Script) where
   one_free : (ts : List Taken) (l : List ℕ) (ls : List (List ℕ)) (s : Said) → IsSaid l s → (v : Result Taken Fault) → judged_after shape nothing_earlier ts s ≡ v
       → ((t : Taken) → IsRead shape nothing_earlier (t ∷ ts) ls (Ok script) → All HasNoPolicyForm ls)
-      → Goes v (λ t. IsRead shape nothing_earlier (t ∷ ts) ls (Ok script)) (λ f. Ok script ≡ Err (refused f (length ts + 1))) → All HasNoPolicyForm (l ∷ ls)
+      → Goes v (λ t. IsRead shape nothing_earlier (t ∷ ts) ls (Ok script)) (λ f. Ok script ≡ Err (error_at f (length ts + 1))) → All HasNoPolicyForm (l ∷ ls)
   one_free ts l ls s is (Err f) j more g = cc
   one_free ts l ls s is (Ok t) j more g = All-cons HasNoPolicyForm l ls (no_policy shape (hosts_of nothing_earlier ts) (has_begun nothing_earlier ts) (event_lines nothing_earlier ts) l s t is j) (more t g)
 
@@ -194,8 +194,8 @@ module _ (same : PlainStandForThemselves) (places : Places) where
     itself : (service : Resolved) (script : Script) → expansion (call_ran service) shape (first_start shape) (plain_elastic script) ≡ script
     itself service script = same (call_ran service) shape (first_start shape) script
 
-    listed_same : (service : Resolved) (script : Script) → listed_of shape service (plain_elastic script) places ≡ reported shape (first_start shape) script (Listing places) (results_of shape service script)
-    listed_same service script = ap (λ s. reported shape (first_start shape) s (Listing places) (results_of shape service s)) (itself service script)
+    listed_same : (service : Resolved) (script : Script) → listed_of shape service (plain_elastic script) places ≡ report_answer shape (first_start shape) script (Listing places) (results_of shape service script)
+    listed_same service script = ap (λ s. report_answer shape (first_start shape) s (Listing places) (results_of shape service s)) (itself service script)
 
     run_there : (script : Script) (due : Answer) → IsDueExpansion places tree (plain_elastic script) due → IsDueFirst (Reports (Listing places)) tree script due
     run_there script due h = record {

@@ -21,12 +21,12 @@ use Rattle.script_reader.specs.declared.elastic.Elastic.{Elastic}
 use Rattle.script_reader.specs.Elastics.{IsElastic}
 use Rattle.elastic_policy.specs.Expansions.{expansion}
 use Rattle.elastic_policy.specs.Stages.{Staged, first_staged, IsStaged}
-use Rattle.elastic_meaning.specs.Walks.{expanded}
+use Rattle.elastic_meaning.specs.Walks.{expanded_script}
 use Rattle.due_parts.specs.declared.report.Report.TheVariants.{Listing}
 use Rattle.due_parts.specs.Answers.{Only}
 use Rattle.due_parts.specs.Coded.{IsCoded}
 use Rattle.due_parts.specs.Served.{IsTypedTree}
-use Rattle.due_parts.specs.Told.{reported}
+use Rattle.due_parts.specs.Told.{report_answer}
 use Rattle.due_parts.proofs.NameLemmas.{code_typed}
 use Rattle.due_stages.specs.declared.work.StagedWork.{StagedWork}
 use Rattle.due_stages.specs.Accepted.{IsReadyStaged}
@@ -34,21 +34,21 @@ use Rattle.due_stages.specs.Elastic.{IsDueExpansion, listed_of}
 
 -- what is known of the runs of what such scripts stand for
 abbrev pub ExpansionsEnd : Type 0
-ExpansionsEnd = (service : Resolved) (program : Program) (elastic : Elastic) → IsCode service program → IsElastic program.shape elastic → IsWhole program.shape service (expanded program.shape service elastic)
+ExpansionsEnd = (service : Resolved) (program : Program) (elastic : Elastic) → IsCode service program → IsElastic program.shape elastic → IsWhole program.shape service (expanded_script program.shape service elastic)
 
 -- whichever resolved service it is told of
 same_listed : (shape : Shape) (a b : Resolved) (elastic : Elastic) (places : Places) → resolved_view a ≡ resolved_view b → listed_of shape a elastic places ≡ listed_of shape b elastic places
 same_listed shape a b elastic places e =
-    ap (λ calls. reported shape (first_start shape) (expansion (λ tree call. (calls tree call).ran) shape (first_start shape) elastic) (Listing places)
+    ap (λ calls. report_answer shape (first_start shape) (expansion (λ tree call. (calls tree call).ran) shape (first_start shape) elastic) (Listing places)
     (finished_of (λ tree call. (calls tree call).ran) shape (first_start shape) (expansion (λ tree call. (calls tree call).ran) shape (first_start shape) elastic))) (same_calls a b e)
 
-only_expansion : (places : Places) (tree : ServiceTree) (typed : Typed) (elastic : Elastic) → IsTypedTree tree typed → IsWhole typed.shape typed.resolved (expanded typed.shape typed.resolved elastic)
+only_expansion : (places : Places) (tree : ServiceTree) (typed : Typed) (elastic : Elastic) → IsTypedTree tree typed → IsWhole typed.shape typed.resolved (expanded_script typed.shape typed.resolved elastic)
     → Only (IsDueExpansion places tree elastic) (listed_of typed.shape typed.resolved elastic places)
 only_expansion places tree typed elastic t whole = record {
   is_due = record {
     service = typed.resolved;
     resolved = t.resolved_is;
-    whole = subst (λ s. IsWhole s typed.resolved (expanded s typed.resolved elastic)) t.shape_is whole;
+    whole = subst (λ s. IsWhole s typed.resolved (expanded_script s typed.resolved elastic)) t.shape_is whole;
     due_is = ap (λ s. listed_of s typed.resolved elastic places) t.shape_is;
   };
   only = λ other h. h.due_is ∙ same_listed (shape_of tree) h.service typed.resolved elastic places (h.resolved ∙ sym t.resolved_is) ∙ ap (λ s. listed_of s typed.resolved elastic places) (sym t.shape_is);
@@ -72,8 +72,8 @@ module _ (tree : ServiceTree) (typed : Typed) (program : Program) (stages : Stag
   fits_program : IsElastic program.shape elastic
   fits_program = subst (λ s. IsElastic s elastic) (sym same_shape) fits
 
-  whole : IsWhole typed.shape typed.resolved (expanded typed.shape typed.resolved elastic)
-  whole = subst (λ s. IsWhole s typed.resolved (expanded s typed.resolved elastic)) same_shape (end typed.resolved program elastic code fits_program)
+  whole : IsWhole typed.shape typed.resolved (expanded_script typed.shape typed.resolved elastic)
+  whole = subst (λ s. IsWhole s typed.resolved (expanded_script s typed.resolved elastic)) same_shape (end typed.resolved program elastic code fits_program)
 
   pub ready : IsReadyStaged (λ places. IsDueExpansion places tree elastic) work
   ready = record {

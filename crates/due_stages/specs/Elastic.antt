@@ -15,23 +15,23 @@ use Rattle.input_parts.specs.Parts.{service_of, script_of}
 use Rattle.script_reader.specs.declared.elastic.Elastic.{Elastic}
 use Rattle.script_reader.specs.declared.error.ScriptError.{ScriptError}
 use Rattle.script_reader.specs.Elastics.{IsReadElastic}
-use Rattle.elastic_meaning.specs.Walks.{expanded}
+use Rattle.elastic_meaning.specs.Walks.{expanded_script}
 use Rattle.due_parts.specs.declared.answer.Answer.{Answer}
 use Rattle.due_parts.specs.declared.report.Report.TheVariants.{Listing}
 use Rattle.due_parts.specs.Answers.{refusal}
 use Rattle.due_parts.specs.Scripts.{IsDueBehind, IsDueShort}
-use Rattle.due_parts.specs.Told.{reported}
+use Rattle.due_parts.specs.Told.{report_answer}
 
 -- the script that it stands for is run from the first Start and listed, with the places of the contexts or without
 abbrev pub listed_of : Shape → Resolved → Elastic → Places → Answer
 listed_of shape service elastic places =
-    reported shape (first_start shape) (expanded shape service elastic) (Listing places) (results_of shape service (expanded shape service elastic))
+    report_answer shape (first_start shape) (expanded_script shape service elastic) (Listing places) (results_of shape service (expanded_script shape service elastic))
 
 -- of a script with policies that was read: the run of what it stands for, on the service with each name resolved, comes to its end, and is listed
 pub record IsDueExpansion (places : Places) (tree : ServiceTree) (elastic : Elastic) (due : Answer) : Type 0 where
   pub service : Resolved
   pub resolved : resolved_view service ≡ resolve_service tree
-  pub whole : IsWhole (shape_of tree) service (expanded (shape_of tree) service elastic)
+  pub whole : IsWhole (shape_of tree) service (expanded_script (shape_of tree) service elastic)
   pub due_is : due ≡ listed_of (shape_of tree) service elastic places
 
 abbrev pub IsDueElasticRead : (Elastic → Answer → Type 0) → Result Elastic ScriptError → Answer → Type 0

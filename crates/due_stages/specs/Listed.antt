@@ -20,7 +20,7 @@ use Rattle.plan_actors.specs.Plans.{Fits}
 use Rattle.listing_out.specs.Listing.{end_lines, lines_from, shown_of}
 use Rattle.command_words.specs.declared.command.Places.{Places}
 use Rattle.command_words.specs.declared.command.Places.TheVariants.{Unlisted, Listed}
-use Rattle.elastic_policy.specs.Stages.{Staged, passed, staged_after, MayFollow}
+use Rattle.elastic_policy.specs.Stages.{Staged, stages_left, staged_after, MayFollow}
 use Rattle.elastic_meaning.specs.Walks.{AreAt, told_of}
 use Rattle.due_parts.specs.declared.answer.Answer.{Answer}
 use Rattle.due_parts.specs.Told.{any_trap}
@@ -45,13 +45,13 @@ abbrev pub events_from : Shape → ℕ → Finished → List ℕ
 events_from shape first done = concat (lines_from shape first (shown_of done))
 
 -- the contexts, where they are asked for, that a run from here begins with
-abbrev pub placed : Places → Start → Option (List Place)
-placed Unlisted start = None
-placed Listed start = Some start.places
+abbrev pub listed_places : Places → Start → Option (List Place)
+listed_places Unlisted start = None
+listed_places Listed start = Some start.places
 
 -- what ends a listing that came to here
 abbrev pub end_from : Shape → Places → Start → List ℕ
-end_from shape places start = concat (end_lines shape (placed places start) (start.next.0 - 1))
+end_from shape places start = concat (end_lines shape (listed_places places start) (start.next.0 - 1))
 
 -- a text that is told without a note, and whether an event trapped
 abbrev pub told_as : Bool → List ℕ → Answer
@@ -72,11 +72,11 @@ module _ (service : Resolved) (program : Program) (elastic : Elastic) where
     pub begins : IsStart program.shape script.hosts s.start
     -- there is a ticket for each of its results, and the next piece may begin where it ends
     pub few : s.start.next.0 + length (ran_by program s.start script).results ≤ 2 ^ 32
-    pub follows : MayFollow (passed s) (ran_by program s.start script)
-    pub next : IsListedTo (staged_after (passed s) (ran_by program s.start script)) (text ++ events_from program.shape s.start.next.0 (ran_by program s.start script))
+    pub follows : MayFollow (stages_left s) (ran_by program s.start script)
+    pub next : IsListedTo (staged_after (stages_left s) (ran_by program s.start script)) (text ++ events_from program.shape s.start.next.0 (ran_by program s.start script))
         (trapped || any_trap (ran_by program s.start script).results)
     -- and fewer turns are left
-    pub less : turns_left (passed s) < turns_left s
+    pub less : turns_left (stages_left s) < turns_left s
 
   -- a front of the listing that is due, with places or without
   abbrev pub IsFrontListed : List ℕ → Type 0

@@ -15,7 +15,7 @@ ghost use Rattle.std.specs.Prelude.{◌≡◌};
 
 use crate::work::StagedWork;
 use context_types::Typed;
-use due_parts::{Refusal, refused, refused_script, served};
+use due_parts::{Refusal, refusal_answer, refused_script, service_of_text};
 use elastic_meaning::expansions_end;
 use elastic_policy::Stages;
 use input_parts::parts_of;
@@ -31,9 +31,9 @@ pub fn accept_elastic(alloc: Global, input: &[u8]) -> Result<StagedWork, Refusal
 {
     let (text, script) = parts_of(input);
     let Some(script) = script else {
-        return Err(Refusal::Due(refused(alloc, 3, b"NoScript")?));
+        return Err(Refusal::Due(refusal_answer(alloc, 3, b"NoScript")?));
     };
-    match served(alloc, text) {
+    match service_of_text(alloc, text) {
         Ok((typed, program)) => accept_script(alloc, typed, program, script),
         Err(refusal) => Err(refusal),
     }
@@ -50,7 +50,7 @@ fn accept_script(
     ensures { (tree : ServiceTree) → IsTypedTree tree typed → IsCoded typed.shape typed.resolved program → IsAcceptedStaged (λ places. IsDueElasticScript places text.now tree) result }
 {
     if text.len() > SCRIPT_BYTES {
-        return Err(Refusal::Due(refused(alloc, 4, b"TooLarge script")?));
+        return Err(Refusal::Due(refusal_answer(alloc, 4, b"TooLarge script")?));
     }
     accept_lines(alloc, typed, program, text)
 }

@@ -13,7 +13,7 @@ use Rattle.script_fold.specs.Lines.{Meaning}
 use Rattle.script_reader.specs.declared.elastic.Part.{Part}
 use Rattle.script_reader.specs.Elastics.{IsPart, IsElastic, lines_in, plain_elastic}
 use Rattle.elastic_policy.specs.Expansions.{script_of, expansion}
-use Rattle.elastic_policy.specs.Stages.{first_staged, passed, staged_after, piece_of}
+use Rattle.elastic_policy.specs.Stages.{first_staged, stages_left, staged_after, piece_of}
 
 abbrev part_of : List (List Line) → Part
 part_of batches = record { policy = None; batches = batches }
@@ -37,7 +37,7 @@ module _ (shape : Shape) (hosts : ℕ) where
   some_piece [] some = absurd (omega (arith, some))
   some_piece (b ∷ bs) some = refl
 
-  one_piece : (batches : List (List Line)) (done : Finished) → 0 < length batches → piece_of (staged_after (passed (first_staged shape (plain_elastic (script_of hosts batches)))) done) ≡ None
+  one_piece : (batches : List (List Line)) (done : Finished) → 0 < length batches → piece_of (staged_after (stages_left (first_staged shape (plain_elastic (script_of hosts batches)))) done) ≡ None
   one_piece [] done some = absurd (omega (arith, some))
   one_piece (b ∷ bs) done some = refl
 
@@ -48,7 +48,7 @@ module _ (shape : Shape) (hosts : ℕ) where
 pub plain_piece : (shape : Shape) (script : Script) → 0 < length script.batches → piece_of (first_staged shape (plain_elastic script)) ≡ Some script
 plain_piece shape script some = some_piece shape script.hosts script.batches some
 
-pub plain_one : (shape : Shape) (script : Script) (done : Finished) → 0 < length script.batches → piece_of (staged_after (passed (first_staged shape (plain_elastic script))) done) ≡ None
+pub plain_one : (shape : Shape) (script : Script) (done : Finished) → 0 < length script.batches → piece_of (staged_after (stages_left (first_staged shape (plain_elastic script))) done) ≡ None
 plain_one shape script done some = one_piece shape script.hosts script.batches done some
 
 pub plain_none : (shape : Shape) (script : Script) → length script.batches ≡ 0 → piece_of (first_staged shape (plain_elastic script)) ≡ None

@@ -24,7 +24,7 @@ use Rattle.script_reader.specs.declared.elastic.Part.{Part}
 use Rattle.script_reader.specs.Elastics.{IsPart, lines_in}
 use Rattle.fold_laws.specs.Growth.{most_added, most_contexts}
 use Rattle.fold_laws.proofs.Growing.{most_lines_add}
-use Rattle.elastic_policy.specs.Expansions.{loaded, places_behind, entries, entries_in, expand}
+use Rattle.elastic_policy.specs.Expansions.{loads_of, places_behind, entries, entries_in, expand}
 use Rattle.elastic_policy.specs.MoveFacts.{IsMoveOf, FitsScript}
 use Rattle.elastic_policy.specs.Moves.{policy_moves}
 use Rattle.elastic_policy.specs.Stages.{Turn, no_loads, batches_alone, batches_turn, part_turn, next_of}
@@ -67,7 +67,7 @@ module _ (hosts : ℕ) (places : List Place) where
         omega (arith, each, one)
 
 -- contexts that nothing entered
-pub unloaded : (load : Path → ℕ) → ((p : Path) → load p ≡ 0) → (places : List Place) → zip places (no_loads (length places)) ≡ loaded load places
+pub unloaded : (load : Path → ℕ) → ((p : Path) → load p ≡ 0) → (places : List Place) → zip places (no_loads (length places)) ≡ loads_of load places
 unloaded load none [] = refl
 unloaded load none (x ∷ places) = λ i. (x, sym (none x.path) i) ∷ unloaded load none places i
 
@@ -125,12 +125,12 @@ module _ (meaning : Meaning) (shape : Shape) (start : Start) (hosts : ℕ) where
     behind_moves part left d = part.batches ++ expand meaning shape start hosts left (d ++ part.batches) (entries_in meaning shape start hosts d part.batches)
 
     -- a part's moves first
-    module _ (part : Part) (left : List Part) (loads : List ℕ) (load : Path → ℕ) (paired : length places ≡ length loads) (same : zip places loads ≡ loaded load places)
+    module _ (part : Part) (left : List Part) (loads : List ℕ) (load : Path → ℕ) (paired : length places ≡ length loads) (same : zip places loads ≡ loads_of load places)
         (fit : IsPart shape hosts part) (parts : All (IsPart shape hosts) left) (short : sum_by lines_in (part ∷ left) ≤ EVENT_LINES) where
       opens : (ms : List Line) → ms ≡ policy_moves hosts part.policy (zip places loads)
           → expand meaning shape start hosts (part ∷ left) done load ≡ with_batch ms [] ++ behind_moves part left (done ++ with_batch ms [])
       opens ms e =
-          append_assoc (with_batch (policy_moves hosts part.policy (loaded load places)) []) part.batches _
+          append_assoc (with_batch (policy_moves hosts part.policy (loads_of load places)) []) part.batches _
           ∙ ap (λ xs. with_batch (policy_moves hosts part.policy xs) [] ++ behind_moves part left (done ++ with_batch (policy_moves hosts part.policy xs) [])) (sym same)
           ∙ ap (λ ns. with_batch ns [] ++ behind_moves part left (done ++ with_batch ns [])) (sym e)
 
@@ -209,7 +209,7 @@ module _ (meaning : Meaning) (shape : Shape) (start : Start) (hosts : ℕ) where
         by_moves [] e = by_batches e part.batches refl
         by_moves (m ∷ ms) e = moves_go m ms e
 
-    pub turns : (left : List Part) (loads : List ℕ) (load : Path → ℕ) → length places ≡ length loads → zip places loads ≡ loaded load places → All (IsPart shape hosts) left → sum_by lines_in left ≤ EVENT_LINES
+    pub turns : (left : List Part) (loads : List ℕ) (load : Path → ℕ) → length places ≡ length loads → zip places loads ≡ loads_of load places → All (IsPart shape hosts) left → sum_by lines_in left ≤ EVENT_LINES
         → IsNext done load left (next_of hosts places loads left).0 (next_of hosts places loads left).2
     turns [] loads load paired same parts short = refl
     turns (part ∷ left) loads load paired same parts short =

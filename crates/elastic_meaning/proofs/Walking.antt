@@ -29,15 +29,15 @@ use Rattle.wave_meaning.specs.Meaning.{call_ran, results_at, results_of, IsWhole
 use Rattle.code_runner.specs.Coded.{IsCode}
 use Rattle.fold_laws.specs.Cuts.{AreJoined, start_behind, IsCut, Comes}
 use Rattle.fold_laws.specs.Growth.{most_added, most_contexts, StaysFew}
-use Rattle.elastic_policy.specs.Expansions.{script_of, loaded, entries_in, expand, expansion}
-use Rattle.elastic_policy.specs.Stages.{Staged, first_staged, next_of, piece_of, passed, staged_after, ArePlaced}
-use Rattle.elastic_meaning.specs.Walks.{expanded, IsUntold, IsFront, AreAt, IsPiece, IsDone}
+use Rattle.elastic_policy.specs.Expansions.{script_of, loads_of, entries_in, expand, expansion}
+use Rattle.elastic_policy.specs.Stages.{Staged, first_staged, next_of, piece_of, stages_left, staged_after, ArePlaced}
+use Rattle.elastic_meaning.specs.Walks.{expanded_script, IsUntold, IsFront, AreAt, IsPiece, IsDone}
 use Rattle.elastic_meaning.proofs.Serving.{first_comes, first_few, is_cut, both_come, both_few, entered_each}
 use Rattle.elastic_meaning.proofs.Turning.{Goes, IsNext, turns}
 
 -- ---- contexts with their loads, as a run tells them
 
-told_loads : (fields load : Path → ℕ) (count : Path → ℕ) → ((p : Path) → count p ≡ load p) → (ps : List Path) → zip (map place_of (map (λ p. (p, fields p)) ps)) (map count ps) ≡ loaded load (map place_of (map (λ p. (p, fields p)) ps))
+told_loads : (fields load : Path → ℕ) (count : Path → ℕ) → ((p : Path) → count p ≡ load p) → (ps : List Path) → zip (map place_of (map (λ p. (p, fields p)) ps)) (map count ps) ≡ loads_of load (map place_of (map (λ p. (p, fields p)) ps))
 told_loads fields load count same [] = refl
 told_loads fields load count same (p ∷ ps) = λ i. (place_of (p, fields p), same p i) ∷ told_loads fields load count same ps i
 
@@ -80,7 +80,7 @@ module _ (service : Resolved) (program : Program) (elastic : Elastic) where
   empty_fits : IsElastic shape elastic → IsScript shape (over [])
   empty_fits fits = record { some_host = fits.some_host; few_hosts = fits.few_hosts; lines = All-nil _; full = All-nil _; few_lines = omega arith }
 
-  first_rest : (expanded shape service elastic).batches ≡ [] ++ expand (call_ran service) shape first elastic.hosts elastic.parts [] (λ p. 0)
+  first_rest : (expanded_script shape service elastic).batches ≡ [] ++ expand (call_ran service) shape first elastic.hosts elastic.parts [] (λ p. 0)
   unfolding expansion
   first_rest = refl
 
@@ -189,18 +189,18 @@ module _ (service : Resolved) (program : Program) (elastic : Elastic) where
       entries_same : (p : Path) → load_of entered p ≡ entries_in (call_ran service) shape first elastic.hosts done b.batches p
       entries_same p = let both_loads = the_cut.loads p in omega (arith, both_loads)
 
-      loads_then : zip f.places f.loads ≡ loaded (entries_in (call_ran service) shape first elastic.hosts done b.batches) f.places
+      loads_then : zip f.places f.loads ≡ loads_of (entries_in (call_ran service) shape first elastic.hosts done b.batches) f.places
       loads_then = told_loads tree.fields (entries_in (call_ran service) shape first elastic.hosts done b.batches) (load_of entered) entries_same tree.paths
 
       -- where it is the next piece, and these parts are left
       module _ (loads : List ℕ) (left : List Part) (load : Path → ℕ)
-          (all : (expanded shape service elastic).batches ≡ done ++ expand (call_ran service) shape first elastic.hosts left done load)
+          (all : (expanded_script shape service elastic).batches ≡ done ++ expand (call_ran service) shape first elastic.hosts left done load)
           (goes : Goes (call_ran service) shape first elastic.hosts done load left (next_of elastic.hosts (behind done).places loads left).2 b)
           (jobs_left : most_jobs done + 4000 * sum_by lines_in left ≤ 16000000) (contexts_left : most_contexts done + 87296 * sum_by lines_in left ≤ 349184000) where
         abbrev rest : List Part
         rest = (next_of elastic.hosts (behind done).places loads left).2
 
-        rest_then : (expanded shape service elastic).batches
+        rest_then : (expanded_script shape service elastic).batches
             ≡ (done ++ b.batches) ++ expand (call_ran service) shape first elastic.hosts rest (done ++ b.batches) (entries_in (call_ran service) shape first elastic.hosts done b.batches)
         rest_then = all ∙ ap (λ bs. done ++ bs) goes.batches ∙ sym (append_assoc done b.batches _)
 
@@ -244,7 +244,7 @@ module _ (service : Resolved) (program : Program) (elastic : Elastic) where
   -- a piece, behind which fewer lines are left
   record GoesOn (done : List (List Line)) (s : Staged) (script : Script) : Type 0 where
     piece : IsPiece service program elastic done s script
-    less : sum_by lines_in (passed s).left < sum_by lines_in s.left
+    less : sum_by lines_in (stages_left s).left < sum_by lines_in s.left
 
   module _ (done : List (List Line)) (loads : List ℕ) (left : List Part) (at : AreAt service program elastic done (stage done loads left)) where
     paths_fit : All (λ p. is_path shape p ≡ true) (map (λ x. x.path) (behind done).places)
@@ -262,7 +262,7 @@ module _ (service : Resolved) (program : Program) (elastic : Elastic) where
           less = goes.less;
         }
 
-    stage_ends : piece_of (stage done loads left) ≡ None → (expanded shape service elastic).batches ≡ done
+    stage_ends : piece_of (stage done loads left) ≡ None → (expanded_script shape service elastic).batches ≡ done
     stage_ends e =
         let none : expand (call_ran service) shape first elastic.hosts left done at.load ≡ [] =
         subst (λ o. IsNext (call_ran service) shape first elastic.hosts done at.load left o (next_of elastic.hosts (behind done).places loads left).2) e next_is in
@@ -278,16 +278,16 @@ module _ (service : Resolved) (program : Program) (elastic : Elastic) where
     pub is_piece : (script : Script) → piece_of s ≡ Some script → IsPiece service program elastic done s script
     is_piece script e = (goes_on script e).piece
 
-    all_done : piece_of s ≡ None → (expanded shape service elastic).batches ≡ done
-    all_done e = subst (λ t. piece_of t ≡ None → (expanded shape service elastic).batches ≡ done) (sym (stage_is done s at)) (stage_ends done s.loads s.left at_stage) e
+    all_done : piece_of s ≡ None → (expanded_script shape service elastic).batches ≡ done
+    all_done e = subst (λ t. piece_of t ≡ None → (expanded_script shape service elastic).batches ≡ done) (sym (stage_is done s at)) (stage_ends done s.loads s.left at_stage) e
 
-    expanded_over : expanded shape service elastic ≡ over (expanded shape service elastic).batches
+    expanded_over : expanded_script shape service elastic ≡ over (expanded_script shape service elastic).batches
     unfolding expansion
     expanded_over = refl
 
     pub is_done : piece_of s ≡ None → IsDone service program elastic done
     is_done e =
-        let all : expanded shape service elastic ≡ over done = expanded_over ∙ ap over (all_done e) in
+        let all : expanded_script shape service elastic ≡ over done = expanded_over ∙ ap over (all_done e) in
         record {
           all = all;
           over = subst (λ t. IsWhole shape service t) (sym all) at.comes.over;
@@ -309,14 +309,14 @@ module _ (service : Resolved) (program : Program) (elastic : Elastic) where
 
   pub record Ends (done : List (List Line)) : Type 0 where
     pub front : IsFront service program elastic done
-    pub over : IsWhole shape service (expanded shape service elastic)
-    pub few : length (results_of shape service (expanded shape service elastic)).results ≤ 2 ^ 32 - 1
+    pub over : IsWhole shape service (expanded_script shape service elastic)
+    pub few : length (results_of shape service (expanded_script shape service elastic)).results ≤ 2 ^ 32 - 1
 
   ends_here : (done : List (List Line)) → IsDone service program elastic done → Ends done
   ends_here done d =
       let all = told done in
       let none : Finished = record { results = []; made = []; names = []; places = all.places; shots = all.shots; loads = [] } in
-      let same : results_of shape service (expanded shape service elastic) ≡ all = ap (results_of shape service) d.all in
+      let same : results_of shape service (expanded_script shape service elastic) ≡ all = ap (results_of shape service) d.all in
       record {
         front = record {
           rest = [];
@@ -343,7 +343,7 @@ module _ (service : Resolved) (program : Program) (elastic : Elastic) where
           rest = script.batches ++ later.front.rest;
           batches = later.front.batches ∙ append_assoc done script.batches later.front.rest;
           more = record { results = piece.results ++ last.results; made = piece.made ++ last.made; names = piece.names ++ last.names; places = last.places; shots = last.shots; loads = last.loads };
-          joined = joined_more (told done) (told (done ++ script.batches)) (results_of shape service (expanded shape service elastic)) piece last p.joined later.front.joined;
+          joined = joined_more (told done) (told (done ++ script.batches)) (results_of shape service (expanded_script shape service elastic)) piece last p.joined later.front.joined;
         };
         over = later.over;
         few = later.few;
@@ -357,7 +357,7 @@ module _ (service : Resolved) (program : Program) (elastic : Elastic) where
       by_piece None e = ends_here done (is_done done s at e)
       by_piece (Some script) e =
           let g = goes_on done s at script e in
-          ends_later done s script g.piece (to_end (done ++ script.batches) (staged_after (passed s) (results_at shape service s.start script)) g.piece.next (omega (arith, g.less, short)))
+          ends_later done s script g.piece (to_end (done ++ script.batches) (staged_after (stages_left s) (results_at shape service s.start script)) g.piece.next (omega (arith, g.less, short)))
 
   to_end : (n : ℕ) (done : List (List Line)) (s : Staged) → AreAt service program elastic done s → sum_by lines_in s.left < n → Ends done
   to_end zero done s at short = absurd (omega (arith, short))

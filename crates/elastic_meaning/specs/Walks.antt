@@ -18,12 +18,12 @@ use Rattle.wave_meaning.specs.Meaning.{call_ran, results_at, results_of, IsWhole
 use Rattle.code_runner.specs.Coded.{IsCode}
 use Rattle.fold_laws.specs.Cuts.{AreJoined, start_behind, IsCut, Comes}
 use Rattle.fold_laws.specs.Growth.{most_contexts, StaysFew}
-use Rattle.elastic_policy.specs.Expansions.{script_of, loaded, expand, expansion}
-use Rattle.elastic_policy.specs.Stages.{Staged, passed, staged_after, MayFollow}
+use Rattle.elastic_policy.specs.Expansions.{script_of, loads_of, expand, expansion}
+use Rattle.elastic_policy.specs.Stages.{Staged, stages_left, staged_after, MayFollow}
 
 -- the script that it stands for, where calls do what the service says
-abbrev pub expanded : Shape → Resolved → Elastic → Script
-expanded shape service elastic = expansion (call_ran service) shape (first_start shape) elastic
+abbrev pub expanded_script : Shape → Resolved → Elastic → Script
+expanded_script shape service elastic = expansion (call_ran service) shape (first_start shape) elastic
 
 -- nothing ran, and the contexts are those of a Start
 pub record IsUntold (start : Start) (f : Finished) : Type 0 where
@@ -41,9 +41,9 @@ module _ (service : Resolved) (program : Program) (elastic : Elastic) where
   -- The batches that are done are a front of all of them, and what they tell is a front of what all tell.
   pub record IsFront (done : List (List Line)) : Type 0 where
     pub rest : List (List Line)
-    pub batches : (expanded program.shape service elastic).batches ≡ done ++ rest
+    pub batches : (expanded_script program.shape service elastic).batches ≡ done ++ rest
     pub more : Finished
-    pub joined : AreJoined (told_of done) more (results_of program.shape service (expanded program.shape service elastic))
+    pub joined : AreJoined (told_of done) more (results_of program.shape service (expanded_script program.shape service elastic))
 
   -- So far it has come: these batches ran, from the first Start, and this is how it goes on.
   pub record AreAt (done : List (List Line)) (s : Staged) : Type 0 where
@@ -57,8 +57,8 @@ module _ (service : Resolved) (program : Program) (elastic : Elastic) where
     -- the batches that are left are those of the parts that are left, with these loads
     pub load : Path → ℕ
     pub paired : length s.start.places ≡ length s.loads
-    pub loads : zip s.start.places s.loads ≡ loaded load s.start.places
-    pub rest : (expanded program.shape service elastic).batches ≡ done ++ expand (call_ran service) program.shape (first_start program.shape) elastic.hosts s.left done load
+    pub loads : zip s.start.places s.loads ≡ loads_of load s.start.places
+    pub rest : (expanded_script program.shape service elastic).batches ≡ done ++ expand (call_ran service) program.shape (first_start program.shape) elastic.hosts s.left done load
     pub left : All (IsPart program.shape elastic.hosts) s.left
     -- Few tickets were given, and few contexts joined; and with the lines that are left they stay few: of each line come at most 4,000
     -- jobs, and 87,296 contexts.
@@ -73,14 +73,14 @@ module _ (service : Resolved) (program : Program) (elastic : Elastic) where
     pub start : IsStart program.shape script.hosts s.start
     -- there is a ticket for each of its results, and the next piece may begin where it ends
     pub few : s.start.next.0 + length (results_at program.shape service s.start script).results ≤ 2 ^ 32
-    pub follows : MayFollow (passed s) (results_at program.shape service s.start script)
-    pub next : AreAt (done ++ script.batches) (staged_after (passed s) (results_at program.shape service s.start script))
+    pub follows : MayFollow (stages_left s) (results_at program.shape service s.start script)
+    pub next : AreAt (done ++ script.batches) (staged_after (stages_left s) (results_at program.shape service s.start script))
     -- what it tells stands behind what was told before
     pub cut : IsCut (call_ran service) program.shape (first_start program.shape) (script_of elastic.hosts done) script
     pub joined : AreJoined (told_of done) (results_at program.shape service s.start script) (told_of (done ++ script.batches))
 
   -- All is done: these batches are those of the script that it stands for. Its run comes to its end, and there is a ticket for each result.
   pub record IsDone (done : List (List Line)) : Type 0 where
-    pub all : expanded program.shape service elastic ≡ script_of elastic.hosts done
-    pub over : IsWhole program.shape service (expanded program.shape service elastic)
+    pub all : expanded_script program.shape service elastic ≡ script_of elastic.hosts done
+    pub over : IsWhole program.shape service (expanded_script program.shape service elastic)
     pub few : length (told_of done).results ≤ 2 ^ 32 - 1

@@ -16,8 +16,8 @@ ghost use Rattle.service_code.specs.declared.program.Program.{Program};
 ghost use Rattle.wave_meaning.specs.Meaning.{results_of, IsWhole};
 ghost use Rattle.code_runner.specs.Coded.{IsCode};
 ghost use Rattle.elastic_policy.specs.Expansions.{expansion};
-ghost use Rattle.elastic_policy.specs.Stages.{Staged, first_staged, passed, staged_after, piece_of};
-ghost use Rattle.elastic_meaning.specs.Walks.{AreAt, IsDone, IsFront, IsPiece, IsUntold, expanded, told_of};
+ghost use Rattle.elastic_policy.specs.Stages.{Staged, first_staged, stages_left, staged_after, piece_of};
+ghost use Rattle.elastic_meaning.specs.Walks.{AreAt, IsDone, IsFront, IsPiece, IsUntold, expanded_script, told_of};
 
 /// A script with policies is run piece by piece. It begins with no batch done, which tells nothing; where a piece is left, that may be
 /// run, and then its batches are done too; where none is left, all is done that the script stands for.
@@ -35,8 +35,8 @@ pub fn pieces_are_fronts()
 
 /// The run of all that it stands for comes to its end, and there is a ticket for each of its results.
 pub fn expansions_end()
-    ensures over { (service : Resolved) (program : Program) (elastic : Elastic) → IsCode service program → IsElastic program.shape elastic → IsWhole program.shape service (expanded program.shape service elastic) }
-    ensures few { (service : Resolved) (program : Program) (elastic : Elastic) → IsCode service program → IsElastic program.shape elastic → length (results_of program.shape service (expanded program.shape service elastic)).results ≤ 2 ^ 32 - 1 }
+    ensures over { (service : Resolved) (program : Program) (elastic : Elastic) → IsCode service program → IsElastic program.shape elastic → IsWhole program.shape service (expanded_script program.shape service elastic) }
+    ensures few { (service : Resolved) (program : Program) (elastic : Elastic) → IsCode service program → IsElastic program.shape elastic → length (results_of program.shape service (expanded_script program.shape service elastic)).results ≤ 2 ^ 32 - 1 }
 {}
 
 /// A script without policies stands for itself, and is one piece.
@@ -44,6 +44,6 @@ pub fn plain_scripts_expand_to_themselves()
     ensures same { (meaning : Meaning) (shape : Shape) (start : Start) (script : Script) → expansion meaning shape start (plain_elastic script) ≡ script }
     ensures fits { (shape : Shape) (script : Script) → IsScript shape script → IsElastic shape (plain_elastic script) }
     ensures piece { (shape : Shape) (script : Script) → 0 < length script.batches → piece_of (first_staged shape (plain_elastic script)) ≡ Some script }
-    ensures one { (shape : Shape) (script : Script) (done : Finished) → 0 < length script.batches → piece_of (staged_after (passed (first_staged shape (plain_elastic script))) done) ≡ None }
+    ensures one { (shape : Shape) (script : Script) (done : Finished) → 0 < length script.batches → piece_of (staged_after (stages_left (first_staged shape (plain_elastic script))) done) ≡ None }
     ensures none { (shape : Shape) (script : Script) → length script.batches ≡ 0 → piece_of (first_staged shape (plain_elastic script)) ≡ None }
 {}

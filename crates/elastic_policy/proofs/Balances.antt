@@ -9,7 +9,7 @@ use Rattle.wave_base.specs.declared.numbers.Host.{Host}
 use Rattle.wave_base.specs.declared.script.Line.{Line}
 use Rattle.wave_base.specs.declared.script.Line.TheVariants.{Move}
 use Rattle.wave_base.specs.Paths.{path_cmp}
-use Rattle.elastic_policy.specs.Moves.{is_on, load_on, heaviest, lightest, spread, may_go, mover, sent, move_to, balance}
+use Rattle.elastic_policy.specs.Moves.{is_on, load_on, heaviest, lightest, spread, may_go, mover, places_with, move_to, balance}
 use Rattle.elastic_policy.specs.inner.Turns.{goes, under_way, IsShifted, top_of, bottom_of, apart_by, next_index}
 use Rattle.elastic_policy.proofs.Firsts.{greatest_same, least_same, greatest_below, least_below}
 use Rattle.elastic_policy.proofs.Loads.{load_on-le-sum}
@@ -106,9 +106,9 @@ module _ {hosts : ℕ} {ps : List Place} {hs : List Host} {ls sums : List ℕ} (
       omega (arith, less, bottom, all, same)
 
   sent_is : (i : ℕ) (p : Place) (to : Host) → to.0 ≡ bottom_of hosts sums → i < length ps →
-      sent (under_way ps hs ls) (get_or ps i p).path (lightest hosts (under_way ps hs ls)) ≡ under_way ps (set hs i to) ls
+      places_with (under_way ps hs ls) (get_or ps i p).path (lightest hosts (under_way ps hs ls)) ≡ under_way ps (set hs i to) ls
   sent_is i p to t b =
-      ap (λ (h : ℕ). sent (under_way ps hs ls) (get_or ps i p).path h) (sym (t ∙ bottom_is)) ∙ sent_under ps hs ls i p to w.paired w.apart b
+      ap (λ (h : ℕ). places_with (under_way ps hs ls) (get_or ps i p).path h) (sym (t ∙ bottom_is)) ∙ sent_under ps hs ls i p to w.paired w.apart b
 
   -- the sums are those of the contexts after the move
   pub turn_sums : (new : List ℕ) (i from : ℕ) (p : Place) (g to : Host) → next_index hosts sums (zip hs ls) ≡ Some i → from ≡ top_of hosts sums → to.0 ≡ bottom_of hosts sums →
@@ -121,7 +121,7 @@ module _ {hosts : ℕ} {ps : List Place} {hs : List Host} {ls sums : List ℕ} (
       let eight = w.eight in
       let apart : AreApart (paths_of xs) = subst AreApart (sym (paths_under ps hs ls w.paired)) w.apart in
       let moved = load_sent (may_go (heaviest hosts xs) (spread hosts xs)) (lightest hosts xs) h xs x apart found.1 in
-      let there : load_on (sent xs x.0.path (lightest hosts xs)) h ≡ load_on (under_way ps (set hs i to) ls) h = ap (λ (ys : List (Place × ℕ)). load_on ys h) (sent_is i p to t found.0) in
+      let there : load_on (places_with xs x.0.path (lightest hosts xs)) h ≡ load_on (under_way ps (set hs i to) ls) h = ap (λ (ys : List (Place × ℕ)). load_on ys h) (sent_is i p to t found.0) in
       let so = w.so h b in
       let one = shifted h (omega arith) in
       let left : cond (is_on h x) (get_or ls i 0) 0 ≡ cond (from == h) (get_or ls i 0) 0 = ap (λ (n : ℕ). cond (n == h) (get_or ls i 0) 0) (ok.here ∙ sym top_is ∙ sym f) in
@@ -141,7 +141,7 @@ module _ {hosts : ℕ} {ps : List Place} {hs : List Host} {ls sums : List ℕ} (
       let turn : balance hosts (most - done) xs ≡ Move (get_or ps i p).path to ∷ balance hosts n (under_way ps (set hs i to) ls) =
       ap (λ (k : ℕ). balance hosts k xs) more
       ∙ balance-some hosts n xs (goer ps hs ls i p g) found.1
-      ∙ ap (λ (l : Line). l ∷ balance hosts n (sent xs (get_or ps i p).path (lightest hosts xs))) line
+      ∙ ap (λ (l : Line). l ∷ balance hosts n (places_with xs (get_or ps i p).path (lightest hosts xs))) line
       ∙ ap (λ (ys : List (Place × ℕ)). Move (get_or ps i p).path to ∷ balance hosts n ys) (sent_is i p to t found.0) in
       rest ∙ ap (λ (ms : List Line). moves ++ ms) turn ∙ sym (append_assoc moves (Move (get_or ps i p).path to ∷ []) (balance hosts n (under_way ps (set hs i to) ls)))
 

@@ -3,7 +3,7 @@ use Rattle.std.proofs.Common.{◌≡◌, ◌≤◌, ◌<◌, ◌+◌, ◌-◌, �
 use Rattle.std.proofs.lemmas.Bool.{and_parts, ltb-true, eqb-true}
 use Rattle.wave_base.specs.declared.finished.Place.{Place}
 use Rattle.wave_base.specs.declared.script.Line.{Line}
-use Rattle.elastic_policy.specs.Moves.{is_on, load_on, heaviest, lightest, spread, may_go, mover, sent, move_to, balance, placed}
+use Rattle.elastic_policy.specs.Moves.{is_on, load_on, heaviest, lightest, spread, may_go, mover, places_with, move_to, balance, places_moved}
 use Rattle.elastic_policy.proofs.Firsts.{greatest_is, least_is, greatest_below, least_below}
 use Rattle.elastic_policy.proofs.Sent.{paths_of, AreApart, find_passes, load_sent, apart_sent}
 
@@ -40,17 +40,17 @@ between old new l a b h at here f is low high some less e =
     ] refl e
 
 pub step_between : (hosts : ℕ) (xs : List (Place × ℕ)) (x : Place × ℕ) → AreApart (paths_of xs) → mover hosts xs ≡ Some x → (h : ℕ) → h < hosts →
-    (load_on xs (lightest hosts xs) ≤ load_on (sent xs x.0.path (lightest hosts xs)) h) × (load_on (sent xs x.0.path (lightest hosts xs)) h ≤ load_on xs (heaviest hosts xs))
+    (load_on xs (lightest hosts xs) ≤ load_on (places_with xs x.0.path (lightest hosts xs)) h) × (load_on (places_with xs x.0.path (lightest hosts xs)) h ≤ load_on xs (heaviest hosts xs))
 step_between hosts xs x a e h k =
     let goes = mover_goes hosts xs x e in
-    between (load_on xs h) (load_on (sent xs x.0.path (lightest hosts xs)) h) x.1 (heaviest hosts xs) (lightest hosts xs) h x.0.host.0 goes.here (load_on xs) refl
+    between (load_on xs h) (load_on (places_with xs x.0.path (lightest hosts xs)) h) x.1 (heaviest hosts xs) (lightest hosts xs) h x.0.host.0 goes.here (load_on xs) refl
     (least_is (load_on xs) hosts h k) (greatest_is (load_on xs) hosts h k) goes.some goes.less
     (load_sent (may_go (heaviest hosts xs) (spread hosts xs)) (lightest hosts xs) h xs x a e)
 
 pub step_even : (hosts : ℕ) (xs : List (Place × ℕ)) (x : Place × ℕ) → 1 ≤ hosts → AreApart (paths_of xs) → mover hosts xs ≡ Some x →
-    spread hosts (sent xs x.0.path (lightest hosts xs)) ≤ spread hosts xs
+    spread hosts (places_with xs x.0.path (lightest hosts xs)) ≤ spread hosts xs
 step_even hosts xs x some a e =
-    let ys = sent xs x.0.path (lightest hosts xs) in
+    let ys = places_with xs x.0.path (lightest hosts xs) in
     let top = step_between hosts xs x a e (heaviest hosts ys) (greatest_below (load_on ys) hosts some) in
     let bottom = step_between hosts xs x a e (lightest hosts ys) (least_below (load_on ys) hosts some) in
     omega (arith, top.0, top.1, bottom.0, bottom.1)
@@ -59,21 +59,21 @@ step_even hosts xs x some a e =
 pub balance-none : (hosts n : ℕ) (xs : List (Place × ℕ)) → mover hosts xs ≡ None → balance hosts n xs ≡ []
 balance-none hosts zero xs e = refl
 balance-none hosts (suc n) xs e =
-    ap (λ (m : Option (Place × ℕ)). let r : List Line = elim m [ None ↦ [] | Some x ↦ move_to (lightest hosts xs) x ∷ balance hosts n (sent xs x.0.path (lightest hosts xs)) ] in r) e
+    ap (λ (m : Option (Place × ℕ)). let r : List Line = elim m [ None ↦ [] | Some x ↦ move_to (lightest hosts xs) x ∷ balance hosts n (places_with xs x.0.path (lightest hosts xs)) ] in r) e
 
 pub balance-some : (hosts n : ℕ) (xs : List (Place × ℕ)) (x : Place × ℕ) → mover hosts xs ≡ Some x →
-    balance hosts (suc n) xs ≡ move_to (lightest hosts xs) x ∷ balance hosts n (sent xs x.0.path (lightest hosts xs))
+    balance hosts (suc n) xs ≡ move_to (lightest hosts xs) x ∷ balance hosts n (places_with xs x.0.path (lightest hosts xs))
 balance-some hosts n xs x e =
-    ap (λ (m : Option (Place × ℕ)). let r : List Line = elim m [ None ↦ [] | Some x ↦ move_to (lightest hosts xs) x ∷ balance hosts n (sent xs x.0.path (lightest hosts xs)) ] in r) e
+    ap (λ (m : Option (Place × ℕ)). let r : List Line = elim m [ None ↦ [] | Some x ↦ move_to (lightest hosts xs) x ∷ balance hosts n (places_with xs x.0.path (lightest hosts xs)) ] in r) e
 
-pub balance_even : (hosts n : ℕ) (xs : List (Place × ℕ)) → 1 ≤ hosts → AreApart (paths_of xs) → spread hosts (placed xs (balance hosts n xs)) ≤ spread hosts xs
+pub balance_even : (hosts n : ℕ) (xs : List (Place × ℕ)) → 1 ≤ hosts → AreApart (paths_of xs) → spread hosts (places_moved xs (balance hosts n xs)) ≤ spread hosts xs
 balance_even hosts zero xs some a = omega arith
 balance_even hosts (suc n) xs some a =
-    elim (mover hosts xs) as (λ m. mover hosts xs ≡ m → spread hosts (placed xs (balance hosts (suc n) xs)) ≤ spread hosts xs) [
-      | None ↦ λ e. subst (λ (ms : List Line). spread hosts (placed xs ms) ≤ spread hosts xs) (sym (balance-none hosts (suc n) xs e)) (omega arith)
+    elim (mover hosts xs) as (λ m. mover hosts xs ≡ m → spread hosts (places_moved xs (balance hosts (suc n) xs)) ≤ spread hosts xs) [
+      | None ↦ λ e. subst (λ (ms : List Line). spread hosts (places_moved xs ms) ≤ spread hosts xs) (sym (balance-none hosts (suc n) xs e)) (omega arith)
       | Some x ↦ λ e.
-          let ys = sent xs x.0.path (lightest hosts xs) in
+          let ys = places_with xs x.0.path (lightest hosts xs) in
           let one = step_even hosts xs x some a e in
           let more = balance_even hosts n ys some (apart_sent xs x.0.path (lightest hosts xs) a) in
-          subst (λ (ms : List Line). spread hosts (placed xs ms) ≤ spread hosts xs) (sym (balance-some hosts n xs x e)) (omega (arith, one, more))
+          subst (λ (ms : List Line). spread hosts (places_moved xs ms) ≤ spread hosts xs) (sym (balance-some hosts n xs x e)) (omega (arith, one, more))
     ] refl

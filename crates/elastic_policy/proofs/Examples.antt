@@ -4,7 +4,7 @@ use Rattle.wave_base.specs.declared.finished.Place.{Place}
 use Rattle.wave_base.specs.declared.policy.Policy.TheVariants.{Balance, Drain}
 use Rattle.wave_base.specs.declared.script.Line.{Line}
 use Rattle.wave_base.specs.declared.script.Line.TheVariants.{Move}
-use Rattle.elastic_policy.specs.Moves.{load_on, heaviest, lightest, spread, balance, drain, moves_of, placed}
+use Rattle.elastic_policy.specs.Moves.{load_on, heaviest, lightest, spread, balance, drain, moves_of, places_moved}
 
 -- a context of the root, on a host, with its load
 abbrev at : ℕ → ℕ → ℕ → Place × ℕ
@@ -27,7 +27,7 @@ two_moves = refl
 one_move : moves_of 2 (Balance 1) six ≡ moved 0 1 ∷ []
 one_move = refl
 
-spread_after : spread 2 (placed six (balance 2 1 six)) ≡ 3
+spread_after : spread 2 (places_moved six (balance 2 1 six)) ≡ 3
 spread_after = refl
 
 -- equal loads: none

@@ -1,16 +1,16 @@
 -- The first of the greatest, and of the least, among some numbers.
 use Rattle.std.proofs.Common.{◌≡◌, ◌≤◌, ◌<◌, ℕ, zero, suc, true, false, cond, nat_lt, refl, ap, subst, ◌∙◌, arith}
 use Rattle.std.proofs.lemmas.Bool.{ltb-true, ltb-false}
-use Rattle.elastic_policy.specs.Moves.{heavier, lighter, first_greatest, first_least}
+use Rattle.elastic_policy.specs.Moves.{heavier_host, lighter_host, first_greatest, first_least}
 
-pub heavier_is : (P : ℕ → Type 0) (f : ℕ → ℕ) (i j : ℕ) → (f i < f j → P j) → (f j ≤ f i → P i) → P (heavier f i j)
+pub heavier_is : (P : ℕ → Type 0) (f : ℕ → ℕ) (i j : ℕ) → (f i < f j → P j) → (f j ≤ f i → P i) → P (heavier_host f i j)
 heavier_is P f i j up down =
     elim (nat_lt (f i) (f j)) as (λ t. nat_lt (f i) (f j) ≡ t → P (cond t j i)) [
       | true ↦ λ e. up (ltb-true (f i) (f j) e)
       | false ↦ λ e. down (ltb-false (f i) (f j) e)
     ] refl
 
-pub lighter_is : (P : ℕ → Type 0) (f : ℕ → ℕ) (i j : ℕ) → (f j < f i → P j) → (f i ≤ f j → P i) → P (lighter f i j)
+pub lighter_is : (P : ℕ → Type 0) (f : ℕ → ℕ) (i j : ℕ) → (f j < f i → P j) → (f i ≤ f j → P i) → P (lighter_host f i j)
 lighter_is P f i j up down =
     elim (nat_lt (f j) (f i)) as (λ t. nat_lt (f j) (f i) ≡ t → P (cond t j i)) [
       | true ↦ λ e. up (ltb-true (f j) (f i) e)

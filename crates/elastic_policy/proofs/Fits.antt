@@ -12,7 +12,7 @@ use Rattle.wave_base.specs.declared.script.Line.{Line}
 use Rattle.wave_base.specs.declared.script.Line.TheVariants.{Move}
 use Rattle.wave_base.specs.Paths.{path_eq}
 use Rattle.wave_base.specs.PathLaws.{path_eq_equiv}
-use Rattle.elastic_policy.specs.Moves.{is_on, load_on, lightest, mover, may_go, heaviest, spread, on_host, sent, move_to, balance, drain, placed}
+use Rattle.elastic_policy.specs.Moves.{is_on, load_on, lightest, mover, may_go, heaviest, spread, on_host, places_with, move_to, balance, drain, places_moved}
 use Rattle.elastic_policy.specs.MoveFacts.{IsMoveOf, FitsScript}
 use Rattle.elastic_policy.specs.inner.Turns.{drained_moves}
 use Rattle.elastic_policy.proofs.Firsts.{least_below}
@@ -44,10 +44,10 @@ balance_moves hosts (suc n) ps xs some own =
       | Some x ↦ λ e.
           let path = found_path (Contains (path_list ps)) (may_go (heaviest hosts xs) (spread hosts xs)) xs x e own in
           let below = least_below (load_on xs) hosts some in
-          let kept : AllByRecursion (Contains (path_list ps)) (paths_of (sent xs x.0.path (lightest hosts xs))) =
+          let kept : AllByRecursion (Contains (path_list ps)) (paths_of (places_with xs x.0.path (lightest hosts xs))) =
           subst (AllByRecursion (Contains (path_list ps))) (sym (paths_sent xs x.0.path (lightest hosts xs))) own in
           subst (AllByRecursion (IsMoveOf hosts ps)) (sym (balance-some hosts n xs x e))
-          ((path, below), balance_moves hosts n ps (sent xs x.0.path (lightest hosts xs)) some kept)
+          ((path, below), balance_moves hosts n ps (places_with xs x.0.path (lightest hosts xs)) some kept)
     ] refl
 
 balance_few : (hosts n : ℕ) (xs : List (Place × ℕ)) → length (balance hosts n xs) ≤ n
@@ -56,8 +56,8 @@ balance_few hosts (suc n) xs =
     elim (mover hosts xs) as (λ m. mover hosts xs ≡ m → length (balance hosts (suc n) xs) ≤ suc n) [
       | None ↦ λ e. let none : length (balance hosts (suc n) xs) ≡ 0 = ap length (balance-none hosts (suc n) xs e) in omega (arith, none)
       | Some x ↦ λ e.
-          let one : length (balance hosts (suc n) xs) ≡ suc (length (balance hosts n (sent xs x.0.path (lightest hosts xs)))) = ap length (balance-some hosts n xs x e) in
-          let more = balance_few hosts n (sent xs x.0.path (lightest hosts xs)) in
+          let one : length (balance hosts (suc n) xs) ≡ suc (length (balance hosts n (places_with xs x.0.path (lightest hosts xs)))) = ap length (balance-some hosts n xs x e) in
+          let more = balance_few hosts n (places_with xs x.0.path (lightest hosts xs)) in
           omega (arith, one, more)
     ] refl
 
@@ -135,23 +135,23 @@ listed_after h g y ys x other listed =
       | false ↦ λ f. f
     ] listed
 
-all_after : (h g : ℕ) (y : Place × ℕ) (ys xs : List (Place × ℕ)) → (g == h) ≡ false → AllByRecursion (IsListed h (y ∷ ys)) xs → AllByRecursion (IsListed h ys) (sent xs y.0.path g)
+all_after : (h g : ℕ) (y : Place × ℕ) (ys xs : List (Place × ℕ)) → (g == h) ≡ false → AllByRecursion (IsListed h (y ∷ ys)) xs → AllByRecursion (IsListed h ys) (places_with xs y.0.path g)
 all_after h g y ys [] other listed = tt
 all_after h g y ys (x ∷ xs) other listed = (listed_after h g y ys x other listed.0, all_after h g y ys xs other listed.1)
 
 none_listed : (h : ℕ) (x : Place × ℕ) → IsListed h [] x → is_on h x ≡ false
 none_listed h x listed = false_from_ne_true (is_on h x) (λ on. false≢true (listed on))
 
-cleared : (h g : ℕ) (ys xs : List (Place × ℕ)) → (g == h) ≡ false → AllByRecursion (IsListed h ys) xs → AllByRecursion (λ (x : Place × ℕ). is_on h x ≡ false) (placed xs (map (move_to g) ys))
+cleared : (h g : ℕ) (ys xs : List (Place × ℕ)) → (g == h) ≡ false → AllByRecursion (IsListed h ys) xs → AllByRecursion (λ (x : Place × ℕ). is_on h x ≡ false) (places_moved xs (map (move_to g) ys))
 cleared h g [] xs other listed = all_weaker (IsListed h []) (λ (x : Place × ℕ). is_on h x ≡ false) (none_listed h) xs listed
-cleared h g (y ∷ ys) xs other listed = cleared h g ys (sent xs y.0.path g) other (all_after h g y ys xs other listed)
+cleared h g (y ∷ ys) xs other listed = cleared h g ys (places_with xs y.0.path g) other (all_after h g y ys xs other listed)
 
-pub drain_clears : (h g : ℕ) (xs : List (Place × ℕ)) → h ≢ g → count_by (is_on h) xs ≤ EVENT_LINES → All (λ (x : Place × ℕ). is_on h x ≡ false) (placed xs (drain h g xs))
+pub drain_clears : (h g : ℕ) (xs : List (Place × ℕ)) → h ≢ g → count_by (is_on h) xs ≤ EVENT_LINES → All (λ (x : Place × ℕ). is_on h x ≡ false) (places_moved xs (drain h g xs))
 drain_clears h g xs other few =
     let all = map (move_to g) (filter (is_on h) xs) in
     let long : length all ≡ length (filter (is_on h) xs) = length-map (filter (is_on h) xs) (move_to g) in
     let count = length-filter (is_on h) xs in
     let whole : drain h g xs ≡ all = take_all EVENT_LINES all (omega (arith, long, count)) in
-    All-from_recursion (λ (x : Place × ℕ). is_on h x ≡ false) (placed xs (drain h g xs))
-    (subst (λ (ms : List Line). AllByRecursion (λ (x : Place × ℕ). is_on h x ≡ false) (placed xs ms)) (sym whole)
+    All-from_recursion (λ (x : Place × ℕ). is_on h x ≡ false) (places_moved xs (drain h g xs))
+    (subst (λ (ms : List Line). AllByRecursion (λ (x : Place × ℕ). is_on h x ≡ false) (places_moved xs ms)) (sym whole)
     (cleared h g (filter (is_on h) xs) xs (ne_eqb g h (λ e. other (sym e))) (all_listed h xs)))

@@ -9,7 +9,7 @@ use Rattle.wave_base.specs.Paths.{path_eq, is_above, parent_of}
 use Rattle.wave_base.specs.PathLaws.{path_eq_equiv}
 use Rattle.wave_base.specs.Places.{with_context, with_contexts, places_after}
 use Rattle.wave_base.specs.Tree.{Tree, there, enter, put, at, shots}
-use Rattle.elastic_policy.specs.Moves.{on_host, sent, placed}
+use Rattle.elastic_policy.specs.Moves.{on_host, places_with, places_moved}
 use Rattle.elastic_policy.specs.MoveFacts.{job_of, hosts_in, FollowsInTree}
 
 -- ---- what is there is not entered again
@@ -51,17 +51,17 @@ one_sent : (b : Bool) (h : ℕ) (x : Place × ℕ) → ◌≡◌ {A = Path × �
 one_sent true h x = refl
 one_sent false h x = refl
 
-hosts_sent : (p : Path) (h : ℕ) (xs : List (Place × ℕ)) → map (set_host p h) (hosts_in xs) ≡ hosts_in (sent xs p h)
+hosts_sent : (p : Path) (h : ℕ) (xs : List (Place × ℕ)) → map (set_host p h) (hosts_in xs) ≡ hosts_in (places_with xs p h)
 hosts_sent p h [] = refl
 hosts_sent p h (x ∷ xs) =
     ap (λ (z : Path × ℕ). z ∷ map (set_host p h) (hosts_in xs)) (one_sent (path_eq p x.0.path) h x)
     ∙ ap (λ (zs : List (Path × ℕ)). ((cond (path_eq p x.0.path) (on_host h x) x).0.path, (cond (path_eq p x.0.path) (on_host h x) x).0.host.0) ∷ zs) (hosts_sent p h xs)
 
-put_sent : (t : Tree ℕ) (p : Path) (h : ℕ) (xs : List (Place × ℕ)) → shots t ≡ hosts_in xs → shots (put t p h) ≡ hosts_in (sent xs p h)
+put_sent : (t : Tree ℕ) (p : Path) (h : ℕ) (xs : List (Place × ℕ)) → shots t ≡ hosts_in xs → shots (put t p h) ≡ hosts_in (places_with xs p h)
 put_sent t p h xs e = shots_put t.fields p h t.paths ∙ ap (map (set_host p h)) e ∙ hosts_sent p h xs
 
 follows : (ps : List Path) (lines : List Line) (t : Tree ℕ) (xs : List (Place × ℕ)) → t.paths ≡ ps → shots t ≡ hosts_in xs →
-    shots (places_after t (map (job_of ps) lines)) ≡ hosts_in (placed xs lines)
+    shots (places_after t (map (job_of ps) lines)) ≡ hosts_in (places_moved xs lines)
 follows ps [] t xs e s = s
 follows ps (Request call ∷ ms) t xs e s = follows ps ms t xs e s
 follows ps (Snapshot ∷ ms) t xs e s = follows ps ms t xs e s
@@ -71,7 +71,7 @@ follows ps (Move p h ∷ ms) t xs e s =
     let here : AllByRecursion (λ (q : Path). there t q ≡ true) entered = subst (λ (rs : List Path). AllByRecursion (λ (q : Path). list_any (path_eq q) rs ≡ true) entered) (sym e) own in
     let same : put (with_contexts t entered) p h.0 ≡ put t p h.0 = ap (λ (u : Tree ℕ). put u p h.0) (stays t entered here) in
     ap (λ (u : Tree ℕ). shots (places_after u (map (job_of ps) ms))) same
-    ∙ follows ps ms (put t p h.0) (sent xs p h.0) e (put_sent t p h.0 xs s)
+    ∙ follows ps ms (put t p h.0) (places_with xs p h.0) e (put_sent t p h.0 xs s)
 
 pub follows_in_tree : (xs : List (Place × ℕ)) (lines : List Line) → FollowsInTree xs lines
 follows_in_tree xs lines = λ t s. follows t.paths lines t xs refl s

@@ -16,7 +16,7 @@ use Rattle.wave_base.specs.declared.policy.Policy.{Policy}
 use Rattle.wave_base.specs.declared.policy.Policy.TheVariants.{Balance, Drain}
 use Rattle.wave_base.specs.Paths.{path_eq, path_cmp}
 use Rattle.script_fold.specs.Lives.{has_load, is_at}
-use Rattle.elastic_policy.specs.Moves.{is_on, load_on, heaviest, lightest, spread, may_go, mover, on_host, sent, move_to, balance, drain, moves_of}
+use Rattle.elastic_policy.specs.Moves.{is_on, load_on, heaviest, lightest, spread, may_go, mover, on_host, places_with, move_to, balance, drain, moves_of}
 use Rattle.elastic_policy.specs.Stages.{ArePlaced}
 use Rattle.elastic_policy.proofs.Even.{balance-none, balance-some}
 use Rattle.elastic_policy.proofs.Firsts.{greatest_same, least_same}
@@ -95,7 +95,7 @@ load_stays : (b : Bool) (to : ℕ) (x : Place × ℕ) → has_load (cond b (on_h
 load_stays true to x = refl
 load_stays false to x = refl
 
-sent_same : (xs : List (Place × ℕ)) (path : Path) (to : ℕ) → filter has_load (sent xs path to) ≡ sent (filter has_load xs) path to
+sent_same : (xs : List (Place × ℕ)) (path : Path) (to : ℕ) → filter has_load (places_with xs path to) ≡ places_with (filter has_load xs) path to
 sent_same xs path to = filter_changed has_load (λ x. cond (path_eq path x.0.path) (on_host to x) x) (λ x. load_stays (path_eq path x.0.path) to x) xs
 
 pub balance_looks : (hosts n : ℕ) (xs : List (Place × ℕ)) → balance hosts n (filter has_load xs) ≡ balance hosts n xs
@@ -105,9 +105,9 @@ balance_looks hosts (suc n) xs =
       | None ↦ λ e. balance-none hosts (suc n) (filter has_load xs) (mover_same hosts xs ∙ e) ∙ sym (balance-none hosts (suc n) xs e)
       | Some x ↦ λ e.
           balance-some hosts n (filter has_load xs) x (mover_same hosts xs ∙ e)
-          ∙ (λ i. move_to (bottom_same hosts xs i) x ∷ balance hosts n (sent (filter has_load xs) x.0.path (bottom_same hosts xs i)))
+          ∙ (λ i. move_to (bottom_same hosts xs i) x ∷ balance hosts n (places_with (filter has_load xs) x.0.path (bottom_same hosts xs i)))
           ∙ ap (λ ys. move_to (lightest hosts xs) x ∷ balance hosts n ys) (sym (sent_same xs x.0.path (lightest hosts xs)))
-          ∙ ap (λ ms. move_to (lightest hosts xs) x ∷ ms) (balance_looks hosts n (sent xs x.0.path (lightest hosts xs)))
+          ∙ ap (λ ms. move_to (lightest hosts xs) x ∷ ms) (balance_looks hosts n (places_with xs x.0.path (lightest hosts xs)))
           ∙ sym (balance-some hosts n xs x e)
     ] refl
 

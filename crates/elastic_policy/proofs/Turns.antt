@@ -11,7 +11,7 @@ use Rattle.wave_base.specs.declared.numbers.Host.{Host}
 use Rattle.wave_base.specs.declared.path.Path.{Path}
 use Rattle.wave_base.specs.Paths.{path_eq}
 use Rattle.wave_base.specs.PathLaws.{path_eq_equiv}
-use Rattle.elastic_policy.specs.Moves.{may_go, on_host, sent}
+use Rattle.elastic_policy.specs.Moves.{may_go, on_host, places_with}
 use Rattle.elastic_policy.specs.inner.Turns.{goes, under_way}
 use Rattle.elastic_policy.proofs.Sent.{paths_of, AreApart, sent_other}
 
@@ -115,7 +115,7 @@ other_path p (q ∷ ps) (suc i) d h b = other_path p ps i d h.1 (omega arith)
 
 -- the host of the context at a place is written
 pub sent_under : (ps : List Place) (hs : List Host) (ls : List ℕ) (i : ℕ) (d : Place) (to : Host) → Paired ps hs ls → AreApart (map (λ (x : Place). x.path) ps) → i < length ps →
-    sent (under_way ps hs ls) (get_or ps i d).path to.0 ≡ under_way ps (set hs i to) ls
+    places_with (under_way ps hs ls) (get_or ps i d).path to.0 ≡ under_way ps (set hs i to) ls
 sent_under [] hs ls i d to e a b = absurd (omega arith)
 sent_under (p ∷ ps) [] ls i d to e a b = no_hosts p ps ls e
 sent_under (p ∷ ps) (h ∷ hs) [] i d to e a b = no_loads p ps (h ∷ hs) e
@@ -124,10 +124,10 @@ sent_under (p ∷ ps) (h ∷ hs) (l ∷ ls) zero d to e a b =
     let rest = under_way ps hs ls in
     let apart : AllByRecursion (λ (q : Path). path_eq p.path q ≡ false) (paths_of rest) =
     subst (AllByRecursion (λ (q : Path). path_eq p.path q ≡ false)) (sym (paths_under ps hs ls (tails p ps h hs l ls e))) a.0 in
-    ap (λ (t : Bool). cond t (on_host to.0 x) x ∷ sent rest p.path to.0) (path_eq_equiv.refl p.path)
+    ap (λ (t : Bool). cond t (on_host to.0 x) x ∷ places_with rest p.path to.0) (path_eq_equiv.refl p.path)
     ∙ ap (λ (ys : List (Place × ℕ)). on_host to.0 x ∷ ys) (sent_other rest p.path to.0 apart)
 sent_under (p ∷ ps) (h ∷ hs) (l ∷ ls) (suc i) d to e a b =
     let x : Place × ℕ = (record { path = p.path; host = h }, l) in
     let path = (get_or ps i d).path in
-    ap (λ (t : Bool). cond t (on_host to.0 x) x ∷ sent (under_way ps hs ls) path to.0) (other_path p.path ps i d a.0 (omega arith))
+    ap (λ (t : Bool). cond t (on_host to.0 x) x ∷ places_with (under_way ps hs ls) path to.0) (other_path p.path ps i d a.0 (omega arith))
     ∙ ap (λ (ys : List (Place × ℕ)). x ∷ ys) (sent_under ps hs ls i d to (tails p ps h hs l ls e) a.1 (omega arith))

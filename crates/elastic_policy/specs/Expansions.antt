@@ -19,8 +19,8 @@ abbrev pub script_of : ℕ → List (List Line) → Script
 script_of hosts batches = record { hosts = hosts; batches = batches }
 
 -- contexts, each with its load
-abbrev pub loaded : (Path → ℕ) → List Place → List (Place × ℕ)
-loaded load places = map (λ x. (x, load x.path)) places
+abbrev pub loads_of : (Path → ℕ) → List Place → List (Place × ℕ)
+loads_of load places = map (λ x. (x, load x.path)) places
 
 -- calls do this, and a run of a service of this shape over so many hosts begins with this
 module _ (meaning : Meaning) (shape : Shape) (start : Start) (hosts : ℕ) where
@@ -38,7 +38,7 @@ module _ (meaning : Meaning) (shape : Shape) (start : Start) (hosts : ℕ) where
 
   -- the moves that a part begins with, as a batch: none where no policy stands, or it asks for none
   abbrev pub policy_batch : Part → List (List Line) → (Path → ℕ) → List (List Line)
-  policy_batch part done load = with_batch (policy_moves hosts part.policy (loaded load (places_behind done))) []
+  policy_batch part done load = with_batch (policy_moves hosts part.policy (loads_of load (places_behind done))) []
 
   -- The batches of these parts, behind those that are done: of each part its moves and then its own. The loads for the next part's moves
   -- are what its own came to.

@@ -11,7 +11,7 @@ use Rattle.wave_base.specs.declared.script.Line.TheVariants.{Request, Move, Snap
 use Rattle.wave_base.specs.Paths.{is_above}
 use Rattle.wave_base.specs.Places.{places_after}
 use Rattle.wave_base.specs.Tree.{Tree, shots}
-use Rattle.elastic_policy.specs.Moves.{is_on, spread, placed}
+use Rattle.elastic_policy.specs.Moves.{is_on, spread, places_moved}
 
 -- a move of one of these contexts to one of so many hosts
 abbrev pub IsMoveOf : ℕ → List Place → Line → Type 0
@@ -26,13 +26,13 @@ pub record FitsScript (hosts : ℕ) (places : List Place) (lines : List Line) : 
 
 -- moves that balance leave the greatest load no further above the least than it was
 abbrev pub IsEven : ℕ → Policy → List (Place × ℕ) → List Line → Type 0
-IsEven hosts (Balance most) xs moves = spread hosts (placed xs moves) ≤ spread hosts xs
+IsEven hosts (Balance most) xs moves = spread hosts (places_moved xs moves) ≤ spread hosts xs
 IsEven hosts (Drain from to) xs moves = Unit {0}
 
 -- moves that drain a host leave nothing on it, unless more is on it than a script has lines
 abbrev pub IsDrained : Policy → List (Place × ℕ) → List Line → Type 0
 IsDrained (Balance most) xs moves = Unit {0}
-IsDrained (Drain from to) xs moves = count_by (is_on from.0) xs ≤ EVENT_LINES → All (λ x. is_on from.0 x ≡ false) (placed xs moves)
+IsDrained (Drain from to) xs moves = count_by (is_on from.0) xs ≤ EVENT_LINES → All (λ x. is_on from.0 x ≡ false) (places_moved xs moves)
 
 -- a move as a job in a tree with these paths: it enters the contexts above its own, and its own, and moves that
 abbrev pub job_of : List Path → Line → List Path × Option (Path × ℕ)
@@ -46,4 +46,4 @@ hosts_in xs = map (λ x. (x.0.path, x.0.host.0)) xs
 
 -- a tree of hosts that shows these contexts shows them after the moves too, where it makes the moves
 abbrev pub FollowsInTree : List (Place × ℕ) → List Line → Type 0
-FollowsInTree xs moves = (t : Tree ℕ) → shots t ≡ hosts_in xs → shots (places_after t (map (job_of t.paths) moves)) ≡ hosts_in (placed xs moves)
+FollowsInTree xs moves = (t : Tree ℕ) → shots t ≡ hosts_in xs → shots (places_after t (map (job_of t.paths) moves)) ≡ hosts_in (places_moved xs moves)

@@ -20,22 +20,22 @@ load_on [] h = 0
 load_on (x ∷ xs) h = (if is_on h x then x.1 else 0) + load_on xs h
 
 -- of two hosts the one of greater load; the first where the loads are equal
-abbrev pub heavier : (ℕ → ℕ) → ℕ → ℕ → ℕ
-heavier load i j = if nat_lt (load i) (load j) then j else i
+abbrev pub heavier_host : (ℕ → ℕ) → ℕ → ℕ → ℕ
+heavier_host load i j = if nat_lt (load i) (load j) then j else i
 
 -- of two hosts the one of less load; the first where the loads are equal
-abbrev pub lighter : (ℕ → ℕ) → ℕ → ℕ → ℕ
-lighter load i j = if nat_lt (load j) (load i) then j else i
+abbrev pub lighter_host : (ℕ → ℕ) → ℕ → ℕ → ℕ
+lighter_host load i j = if nat_lt (load j) (load i) then j else i
 
 -- the first host of greatest load among so many, from 0
 abbrev pub first_greatest : (ℕ → ℕ) → ℕ → ℕ
 first_greatest load zero = 0
-first_greatest load (suc n) = heavier load (first_greatest load n) n
+first_greatest load (suc n) = heavier_host load (first_greatest load n) n
 
 -- the first host of least load among so many, from 0
 abbrev pub first_least : (ℕ → ℕ) → ℕ → ℕ
 first_least load zero = 0
-first_least load (suc n) = lighter load (first_least load n) n
+first_least load (suc n) = lighter_host load (first_least load n) n
 
 abbrev pub heaviest : ℕ → List (Place × ℕ) → ℕ
 heaviest hosts xs = first_greatest (load_on xs) hosts
@@ -60,8 +60,8 @@ abbrev pub on_host : ℕ → Place × ℕ → Place × ℕ
 on_host to x = (record { path = x.0.path; host = record { 0 = to } }, x.1)
 
 -- the context of this path is set on a host, and the others stay where they are
-abbrev pub sent : List (Place × ℕ) → Path → ℕ → List (Place × ℕ)
-sent xs path to = map (λ x. if path_eq path x.0.path then on_host to x else x) xs
+abbrev pub places_with : List (Place × ℕ) → Path → ℕ → List (Place × ℕ)
+places_with xs path to = map (λ x. if path_eq path x.0.path then on_host to x else x) xs
 
 abbrev pub move_to : ℕ → Place × ℕ → Line
 move_to to x = Move x.0.path (record { 0 = to })
@@ -69,7 +69,7 @@ move_to to x = Move x.0.path (record { 0 = to })
 -- at most so many times a context moves from the host of greatest load to that of least; where none may go it ends
 abbrev pub balance : ℕ → ℕ → List (Place × ℕ) → List Line
 balance hosts zero xs = []
-balance hosts (suc n) xs = elim (mover hosts xs) [ None ↦ [] | Some x ↦ move_to (lightest hosts xs) x ∷ balance hosts n (sent xs x.0.path (lightest hosts xs)) ]
+balance hosts (suc n) xs = elim (mover hosts xs) [ None ↦ [] | Some x ↦ move_to (lightest hosts xs) x ∷ balance hosts n (places_with xs x.0.path (lightest hosts xs)) ]
 
 -- a move of each context on the one host to the other, as many as a script may have
 abbrev pub drain : ℕ → ℕ → List (Place × ℕ) → List Line
@@ -88,10 +88,10 @@ policy_moves hosts (Some p) xs = moves_of hosts p xs
 -- the contexts after a line of a script: a move alone changes them
 abbrev pub after_line : List (Place × ℕ) → Line → List (Place × ℕ)
 after_line xs (Request call) = xs
-after_line xs (Move path to) = sent xs path to.0
+after_line xs (Move path to) = places_with xs path to.0
 after_line xs Snapshot = xs
 
 -- after all lines, one after the other
-abbrev pub placed : List (Place × ℕ) → List Line → List (Place × ℕ)
-placed xs [] = xs
-placed xs (m ∷ ms) = placed (after_line xs m) ms
+abbrev pub places_moved : List (Place × ℕ) → List Line → List (Place × ℕ)
+places_moved xs [] = xs
+places_moved xs (m ∷ ms) = places_moved (after_line xs m) ms

@@ -66,8 +66,8 @@ abbrev pub piece_of : Staged → Option Script
 piece_of s = (next_of s.hosts s.start.places s.loads s.left).0
 
 -- what is left behind it
-abbrev pub passed : Staged → Staged
-passed s = record {
+abbrev pub stages_left : Staged → Staged
+stages_left s = record {
   hosts = s.hosts;
   start = s.start;
   loads = (next_of s.hosts s.start.places s.loads s.left).1;

@@ -10,7 +10,7 @@ ghost use Rattle.wave_base.specs.Starts.{IsStart};
 ghost use Rattle.script_fold.specs.Lives.{IsTold};
 ghost use Rattle.script_fold.specs.Runs.{finished_of};
 ghost use Rattle.elastic_policy.specs.Moves.{moves_of, policy_moves};
-ghost use Rattle.elastic_policy.specs.Stages.{piece_of, passed, staged_after, with_no_loads, ArePlaced, FitsHosts, IsStaged, MayFollow};
+ghost use Rattle.elastic_policy.specs.Stages.{piece_of, stages_left, staged_after, with_no_loads, ArePlaced, FitsHosts, IsStaged, MayFollow};
 
 use crate::plan::plan_moves;
 use crate::stages::{Stages, one_batch};
@@ -56,7 +56,7 @@ fn moves_on(
 {
     match *policy {
         Policy::Balance(_) => {
-            let (places, loads) = live.loaded(alloc)?;
+            let (places, loads) = live.places_with_loads(alloc)?;
             plan_moves(alloc, &places, &loads, hosts, policy)
         }
         Policy::Drain(from, _) => {
@@ -141,7 +141,7 @@ impl LiveStages {
             places,
             shots,
             loads,
-        } = live.finished(alloc, nothing)?;
+        } = live.finished_run(alloc, nothing)?;
         let start = Start {
             shots,
             places,
@@ -154,7 +154,7 @@ impl LiveStages {
     pub fn next(&mut self, alloc: Global) -> Result<Option<Script>, OutOfMemory>
         requires { IsStaged self.old }
         ensures piece { IfOk result (λ o. o ≡ piece_of self.old) }
-        ensures left { OnOk result (self.new ≡ passed self.old) }
+        ensures left { OnOk result (self.new ≡ stages_left self.old) }
         ensures staged { OnOk result (IsStaged self.new) }
     {
         while let Some(part) = self.left.pop_front() {

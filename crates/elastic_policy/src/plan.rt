@@ -59,7 +59,7 @@ fn drain_moves(
 }
 
 // The contexts with a load, each with its own: no other one counts for a balance.
-fn loaded(
+fn loads_of(
     alloc: Global,
     places: &[Place],
     loads: &[u64],
@@ -95,7 +95,7 @@ fn balance_moves(
     requires small { sum loads.now ≤ 2 ^ 60 }
     ensures { IfOk result (λ ms. ms ≡ balance hosts most (zip places.now loads.now)) }
 {
-    let (places, loads) = loaded(alloc, places, loads)?;
+    let (places, loads) = loads_of(alloc, places, loads)?;
     balance_among(alloc, &places, &loads, hosts, most)
 }
 

@@ -4,7 +4,7 @@ ghost use Rattle.std.specs.Prelude.{◌≡◌, map, IfOk, OnOk};
 ghost use Rattle.std.specs.List.Sorted.{IsStrictlySortedBy};
 ghost use Rattle.wave_base.specs.Paths.{path_cmp};
 ghost use Rattle.elastic_policy.specs.Progress.{come_to};
-ghost use Rattle.elastic_policy.specs.Stages.{piece_of, passed, with_no_loads, IsStaged};
+ghost use Rattle.elastic_policy.specs.Stages.{piece_of, stages_left, with_no_loads, IsStaged};
 
 use crate::live::LiveStages;
 use crate::stages::Stages;
@@ -26,7 +26,7 @@ impl Progress {
     pub fn next(&mut self, alloc: Global) -> Result<Option<Script>, OutOfMemory>
         requires { IsStaged (come_to self.old) }
         ensures piece { IfOk result (λ o. o ≡ piece_of (come_to self.old)) }
-        ensures left { OnOk result (come_to self.new ≡ passed (come_to self.old)) }
+        ensures left { OnOk result (come_to self.new ≡ stages_left (come_to self.old)) }
         ensures staged { OnOk result (IsStaged (come_to self.new)) }
     {
         match self {
@@ -36,7 +36,7 @@ impl Progress {
     }
 
     /// The same on a Start of its own.
-    pub fn kept(self, alloc: Global) -> Result<Stages, OutOfMemory>
+    pub fn into_stages(self, alloc: Global) -> Result<Stages, OutOfMemory>
         ensures { IfOk result (λ s. s ≡ come_to self) }
     {
         match self {

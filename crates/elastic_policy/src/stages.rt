@@ -6,7 +6,7 @@ ghost use Rattle.wave_base.specs.Shapes.{IsShape};
 ghost use Rattle.wave_base.specs.declared.limits.TheConstants.{HOSTS};
 ghost use Rattle.script_reader.specs.Elastics.{IsElastic};
 ghost use Rattle.elastic_policy.specs.Moves.{policy_moves};
-ghost use Rattle.elastic_policy.specs.Stages.{first_staged, no_loads, piece_of, passed, staged_after, ArePlaced, FitsHosts, IsStaged, MayFollow};
+ghost use Rattle.elastic_policy.specs.Stages.{first_staged, no_loads, piece_of, stages_left, staged_after, ArePlaced, FitsHosts, IsStaged, MayFollow};
 
 use crate::plan::plan_moves;
 use script_reader::{Elastic, Part};
@@ -127,7 +127,7 @@ impl Stages {
     pub fn next(&mut self, alloc: Global) -> Result<Option<Script>, OutOfMemory>
         requires { IsStaged self.old }
         ensures piece { IfOk result (λ o. o ≡ piece_of self.old) }
-        ensures left { OnOk result (self.new ≡ passed self.old) }
+        ensures left { OnOk result (self.new ≡ stages_left self.old) }
         ensures staged { OnOk result (IsStaged self.new) }
     {
         while let Some(part) = self.left.pop_front() {

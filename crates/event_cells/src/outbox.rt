@@ -59,7 +59,7 @@ impl Outbox {
     }
 
     /// How many mails were sent.
-    pub fn sent(&self) -> u32
+    pub fn sent_count(&self) -> u32
         ensures { result ≡ self.now.sent }
     {
         self.sent

@@ -44,10 +44,10 @@ use Rattle.due_parts.specs.declared.report.Report.TheVariants.{Listing, Summary,
 use Rattle.due_parts.specs.declared.telling.Telling.{Telling}
 use Rattle.due_parts.specs.declared.telling.Telling.TheVariants.{Reports, Traces}
 use Rattle.due_parts.specs.declared.runnable.Runnable.{Runnable}
-use Rattle.due_parts.specs.Accepted.{CanRun, plan_with, point_of, ran, report_of, trace_of}
+use Rattle.due_parts.specs.Accepted.{CanRun, plan_with, point_of, run_outcome, report_of, trace_of}
 use Rattle.due_parts.specs.Runs.{IsRunBy, nearest_workers}
 use Rattle.due_parts.proofs.RunLemmas.{few_nearest, some_nearest}
-use Rattle.due_parts.specs.Told.{any_trap, is_listed, point_behind, reported}
+use Rattle.due_parts.specs.Told.{any_trap, is_listed, point_behind, report_answer}
 use Rattle.eventwave.specs.declared.ending.Ending.{Ending}
 use Rattle.eventwave.specs.declared.ending.Ending.TheVariants.{WordsRefused, ReadFault, WriteFault, NoMemory, Answered}
 use Rattle.eventwave.specs.declared.made.Made.{Made}
@@ -89,21 +89,21 @@ lines_of work = lines_by (plan_with work 1) work.start
 
 -- what stands behind them in a listing
 abbrev end_of : Places → Runnable → List ℕ
-end_of places work = end_text places work.program.shape work.start.next.0 (ran work)
+end_of places work = end_text places work.program.shape work.start.next.0 (run_outcome work)
 
 listing_is : (work : Runnable) (places : Places) → (report_of work (Listing places)).text ≡ lines_of work ++ end_of places work
 listing_is work places =
-    concat-append (lines_from work.program.shape work.start.next.0 (shown_of (ran work))) (end_lines work.program.shape (places_of (ran work) (is_listed places)) (last_ticket work.start.next.0 (ran work)))
+    concat-append (lines_from work.program.shape work.start.next.0 (shown_of (run_outcome work))) (end_lines work.program.shape (places_of (run_outcome work) (is_listed places)) (last_ticket work.start.next.0 (run_outcome work)))
 
 -- an answer with the status of work that was run
 abbrev as_told : Runnable → List ℕ → Answer
-as_told work text = record { status = if any_trap (ran work).results then 1 else 0; note = []; text = text }
+as_told work text = record { status = if any_trap (run_outcome work).results then 1 else 0; note = []; text = text }
 
 module _ (work : Runnable) (workers : ℕ) (plan : plans.Plan) (start : Start) (p : plan ≡ plan_with work workers) (b : start ≡ work.start) where
   pub same_lines : lines_by plan start ≡ lines_of work
   same_lines = λ i. lines_by (p i) (b i)
 
-  pub same_given : given_by plan start ≡ ran work
+  pub same_given : given_by plan start ≡ run_outcome work
   same_given = λ i. given_by (p i) (b i)
 
   pub can_make : (can : CanRun work) → plans.Fits plan → CanMake work.service plan start
@@ -111,7 +111,7 @@ module _ (work : Runnable) (workers : ℕ) (plan : plans.Plan) (start : Start) (
     code = subst (λ (q : plans.Plan). IsCode work.service q.program) (sym p) can.code;
     fits = fits;
     begins = subst (plans.FitsStart plan) (sym b) (subst (λ (q : plans.Plan). plans.FitsStart q work.start) (sym p) can.begins);
-    few = subst (λ (f : Finished). start.next.0 + length f.results ≤ 2 ^ 32) (sym same_given) (subst (λ (s : Start). s.next.0 + length (ran work).results ≤ 2 ^ 32) (sym b) can.few);
+    few = subst (λ (f : Finished). start.next.0 + length f.results ≤ 2 ^ 32) (sym same_given) (subst (λ (s : Start). s.next.0 + length (run_outcome work).results ≤ 2 ^ 32) (sym b) can.few);
   }
 
   -- a journal of the work, by whom it was run
@@ -148,7 +148,7 @@ evaluated service plan start can = plan_means service plan.program can.code star
 abbrev told_with : Telling → Runnable → Made → Answer
 told_with telling work made = with_lines (lines_of work) (rest_of telling work.program.shape work.start.next.0 made)
 
-tells_rest : (telling : Telling) (work : Runnable) (made : Made) → made.done ≡ ran work → has_lines telling ≡ true
+tells_rest : (telling : Telling) (work : Runnable) (made : Made) → made.done ≡ run_outcome work → has_lines telling ≡ true
     → ((places : Places) (crew : Crew) → telling ≡ Traces places crew → (labels : List Label) × (made.journal ≡ Some labels) × IsRunBy crew.schedule (plan_with work (nearest_workers crew.workers)) work.start (map label_of labels))
     → Tells telling work (told_with telling work made)
 tells_rest (Reports (Listing places)) work made done lines journal =
@@ -202,7 +202,7 @@ module _ (telling : Telling) (engine : Engine) (work : Runnable) (plan : Plan) (
   pub run_gives : (made : Made) (old mid new : Option (List ℕ)) (e : Ending) → IsMade engine (plan_of plan) start made → Appends old mid (event_lines plan start)
       → Gave (rest_of telling plan.program.shape start.next.0 made) mid new e → SomeGave (Tells telling work) old new e
   run_gives made old mid new e is written gave =
-      let done : made.done ≡ ran work = is.done ∙ same_given work (nearest_workers (workers_of engine)) (plan_of plan) start p b in
+      let done : made.done ≡ run_outcome work = is.done ∙ same_given work (nearest_workers (workers_of engine)) (plan_of plan) start p b in
       let g : Gave (rest_of telling work.program.shape work.start.next.0 made) mid new e = subst (λ a. Gave a mid new e) (λ i. rest_of telling (p i).program.shape (b i).next.0 made) gave in
       let l : Appends old mid (lines_of work) = subst (Appends old mid) (same_lines work (nearest_workers (workers_of engine)) (plan_of plan) start p b) written in
       gives_it old new (Tells telling work) (told_with telling work made) e (tells_rest telling work made done lines (journal_of engine work (plan_of plan) start telling made p b suits is.journal))
@@ -221,7 +221,7 @@ module _ (telling : Telling) (engine : Engine) (work : Runnable) (plan : Plan) (
   tickets made is = record {
     some = subst (λ (s : Start). 1 ≤ s.next.0) (sym b) can.begins.first_next;
     few = subst (λ (f : Finished). start.next.0 + length f.results ≤ 2 ^ 32) (sym (is.done ∙ same_given work (nearest_workers (workers_of engine)) (plan_of plan) start p b))
-        (subst (λ (s : Start). s.next.0 + length (ran work).results ≤ 2 ^ 32) (sym b) can.few);
+        (subst (λ (s : Start). s.next.0 + length (run_outcome work).results ≤ 2 ^ 32) (sym b) can.few);
   }
 
   -- what is asked of it where what stands behind its lines is written
@@ -248,9 +248,9 @@ module _ (telling : Telling) (engine : Engine) (work : Runnable) (plan : Plan) (
 
 module _ (report : Report) (engine : Engine) (work : Runnable) (plan : Plan) (start : Start) (p : plan_of plan ≡ plan_with work (nearest_workers (workers_of engine))) (b : start ≡ work.start) where
   -- the report of what was made is that of the work
-  pub report_is : (made : Made) → IsMade engine (plan_of plan) start made → reported plan.program.shape start plan.script report made.done ≡ report_of work report
+  pub report_is : (made : Made) → IsMade engine (plan_of plan) start made → report_answer plan.program.shape start plan.script report made.done ≡ report_of work report
   report_is made is =
-      (λ i. reported (p i).program.shape (b i) (p i).script report ((is.done ∙ same_given work (nearest_workers (workers_of engine)) (plan_of plan) start p b) i))
+      (λ i. report_answer (p i).program.shape (b i) (p i).script report ((is.done ∙ same_given work (nearest_workers (workers_of engine)) (plan_of plan) start p b) i))
 
   -- it can be told where the work has its point
   pub tellable : (made : Made) → IsMade engine (plan_of plan) start made → has_lines (Reports report) ≡ false → (Reports report ≡ Reports Point → IsPoint work.program.shape (point_of work))

@@ -20,7 +20,7 @@ use Rattle.plan_actors.specs.Plans.{Plan}
 use Rattle.listing_out.specs.Listing.{lines_from, shown_from}
 use Rattle.script_reader.specs.declared.elastic.Elastic.{Elastic}
 use Rattle.command_words.specs.declared.command.Places.{Places}
-use Rattle.elastic_policy.specs.Stages.{Staged, IsStaged, MayFollow, passed, piece_of, staged_after}
+use Rattle.elastic_policy.specs.Stages.{Staged, IsStaged, MayFollow, stages_left, piece_of, staged_after}
 use Rattle.due_parts.specs.declared.answer.Answer.{Answer}
 use Rattle.due_parts.specs.Told.{any_trap}
 use Rattle.due_parts.specs.Runs.{nearest_workers}
@@ -117,7 +117,7 @@ module _ (work : StagedWork) where
     next_piece script found pieces is some = pieces work.service work.program (elastic_of work.stages) s h.text trapped script h.listed (sym is ∙ some)
 
     -- a piece that was made a plan of for an engine, and where it begins
-    module _ (script : Script) (engine : Engine) (plan : Plan) (now : Staged) (piece : IsPiece s h.text trapped script) (made : plan ≡ piece_plan program script engine) (behind : now ≡ passed s) where
+    module _ (script : Script) (engine : Engine) (plan : Plan) (now : Staged) (piece : IsPiece s h.text trapped script) (made : plan ≡ piece_plan program script engine) (behind : now ≡ stages_left s) where
       plan_is : plan ≡ piece_plan work.program script engine
       plan_is = made ∙ ap (λ p. piece_plan p script engine) h.same
 
@@ -176,7 +176,7 @@ module _ (work : StagedWork) where
 
     -- ---- the end
 
-    module _ (found : Option Script) (now : Staged) (ends : EndsAreWhole) (is : found ≡ piece_of s) (none : found ≡ None) (behind : now ≡ passed s) where
+    module _ (found : Option Script) (now : Staged) (ends : EndsAreWhole) (is : found ≡ piece_of s) (none : found ≡ None) (behind : now ≡ stages_left s) where
       whole : IsWholeListed work.service work.program (elastic_of work.stages) s.start h.text trapped
       whole = ends work.service work.program (elastic_of work.stages) s h.text trapped h.listed (sym is ∙ none)
 

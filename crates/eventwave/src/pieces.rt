@@ -197,7 +197,7 @@ pub fn drive_piece<K: Sink>(
     ensures fault { IsErrOf result ListError.WriteFault → Rose (K.faults out.old) (K.faults out.new) }
     ensures later { K.faults out.old ≤ K.faults out.new }
 {
-    let mut stages = stages.kept(alloc)?;
+    let mut stages = stages.into_stages(alloc)?;
     let made = run_alone(alloc, engine, service, &plan, stages.start(), out)?;
     let trapped = go_on(engine, &plan, made, &mut stages);
     Ok(Behind {
@@ -224,7 +224,7 @@ pub fn share_piece<R: Threads + Wait + Sync, K: Sink + Send, G: Gate + Sync>(
     ensures fault { IsErrOf result ListError.WriteFault → Rose (K.faults out.old) (K.faults out.new) }
     ensures later { K.faults out.old ≤ K.faults out.new }
 {
-    let mut stages = stages.kept(team.alloc)?;
+    let mut stages = stages.into_stages(team.alloc)?;
     let made = run_together(team, &plan, stages.start(), out)?;
     let trapped = go_on(engine, &plan, made, &mut stages);
     Ok(Behind {

@@ -2,7 +2,7 @@
 
 ghost use Rattle.std.specs.Prelude.{◌≡◌, ◌≤◌, ◌+◌, ◌^◌, length, option_copied, All, IfOk, IsErrOf, OnErr, OnOk};
 ghost use Rattle.std.specs.Io.KnownBytes.{Appends};
-ghost use Rattle.due_parts.specs.Told.{is_listed, point_behind, reported};
+ghost use Rattle.due_parts.specs.Told.{is_listed, point_behind, report_answer};
 ghost use Rattle.journal_text.specs.Fits.{HasPath};
 ghost use Rattle.journal_text.specs.JournalTexts.{journal_text};
 ghost use Rattle.wave_labels.specs.declared.label.Label.{Label};
@@ -16,7 +16,9 @@ ghost use Rattle.wave_effects.specs.Plans.{plan_of};
 use crate::ending::{Ending, broken_off};
 use crate::made::Made;
 use command_words::Places;
-use due_parts::{Answer, Report, Telling, runs_have_paths, saved, status_of, summed};
+use due_parts::{
+    Answer, Report, Telling, point_answer, runs_have_paths, status_of, summary_answer,
+};
 use journal_text::{head_line, label_line};
 use label_log::LabelLog;
 use listing_out::{ListError, write_end};
@@ -148,12 +150,12 @@ pub fn told_at_once(
     done: Finished,
 ) -> Result<Answer, OutOfMemory>
     requires { IsTellable report plan.now.program.shape (point_behind start.now plan.now.script done) }
-    ensures { IfOk result (λ a. a ≡ reported plan.now.program.shape start.now plan.now.script report done) }
+    ensures { IfOk result (λ a. a ≡ report_answer plan.now.program.shape start.now plan.now.script report done) }
 {
     let shape = &plan.program.program().shape;
     match report {
-        Report::Summary => summed(alloc, &done),
-        Report::Point => saved(alloc, shape, start, &plan.script, done),
+        Report::Summary => summary_answer(alloc, &done),
+        Report::Point => point_answer(alloc, shape, start, &plan.script, done),
         Report::Listing(_) => unreachable!(),
     }
 }

@@ -5,7 +5,7 @@ ghost use Rattle.std.specs.Prelude.{◌≡◌, ◌≤◌, option_copied, true, f
 ghost use Rattle.std.specs.Io.KnownBytes.{Appends};
 ghost use Rattle.wave_io.specs.Causes.{Rose};
 ghost use Rattle.wave_io.specs.Streams.{AppendsFront};
-ghost use Rattle.due_stages.specs.Listed.{end_from, placed};
+ghost use Rattle.due_stages.specs.Listed.{end_from, listed_places};
 ghost use Rattle.eventwave.specs.inner.Parts.{SomeGave};
 ghost use Rattle.eventwave.specs.inner.Stages.{IsStagedBy, listing_of};
 
@@ -89,7 +89,7 @@ fn list_alone<K: Sink>(
         code = behind.program;
         stages = behind.stages;
     }
-    let stages = stages.kept(alloc)?;
+    let stages = stages.into_stages(alloc)?;
     write_behind(alloc, places, &code.program().shape, stages.start(), out)?;
     Ok(u8::from(trapped))
 }
@@ -123,7 +123,7 @@ fn list_together<R: Threads + Wait + Sync, K: Sink + Send, G: Gate + Sync>(
         code = behind.program;
         stages = behind.stages;
     }
-    let stages = stages.kept(team.alloc)?;
+    let stages = stages.into_stages(team.alloc)?;
     write_behind(
         team.alloc,
         places,
@@ -148,12 +148,18 @@ fn write_behind<K: Sink>(
     ensures fault { IsErrOf result ListError.WriteFault → Rose (K.faults out.old) (K.faults out.new) }
     ensures later { K.faults out.old ≤ K.faults out.new }
 {
-    write_end(alloc, out, shape, placed(places, start), start.next.0 - 1)
+    write_end(
+        alloc,
+        out,
+        shape,
+        listed_places(places, start),
+        start.next.0 - 1,
+    )
 }
 
 // The places, where they are asked for.
-fn placed(places: Places, start: &Start) -> Option<&Seq<Place>>
-    ensures { option_copied result ≡ placed places start.now }
+fn listed_places(places: Places, start: &Start) -> Option<&Seq<Place>>
+    ensures { option_copied result ≡ listed_places places start.now }
 {
     match places {
         Places::Listed => Some(&start.places),

@@ -23,7 +23,7 @@ use Rattle.script_fold.specs.Owed.{Owed, KeepsShape}
 use Rattle.script_fold.specs.Runs.{after_jobs, whole_run, hosts_after, ticket_of, place_of, finished_of, start_after, IsFew}
 use Rattle.script_fold.proofs.AgainLemmas.{run_goes_on}
 use Rattle.plan_actors.proofs.Folding.{most_over}
-use Rattle.fold_laws.specs.Cuts.{both, followed, AreJoined, start_behind, IsCut, Comes}
+use Rattle.fold_laws.specs.Cuts.{both, joint_progress, AreJoined, start_behind, IsCut, Comes}
 use Rattle.fold_laws.specs.Growth.{most_added, GrowsBy, StaysFew}
 use Rattle.fold_laws.proofs.Growing.{stays_few}
 use Rattle.fold_laws.proofs.Standing.{Leaves, leaves_after, shown_tree, told_places}
@@ -46,7 +46,7 @@ zip_append [] (u ∷ us) ys vs e = absurd (omega (arith, e))
 zip_append (x ∷ xs) [] ys vs e = absurd (omega (arith, e))
 zip_append (x ∷ xs) (u ∷ us) ys vs e = ap (λ zs. (x, u) ∷ zs) (zip_append xs us ys vs (omega (arith, e)))
 
-hosts_followed : (start u : Start) (v w : Run) → length v.entered ≡ length v.results → start_places u ≡ hosts_after start v → hosts_after start (followed v w) ≡ hosts_after u w
+hosts_followed : (start u : Start) (v w : Run) → length v.entered ≡ length v.results → start_places u ≡ hosts_after start v → hosts_after start (joint_progress v w) ≡ hosts_after u w
 hosts_followed start u v w as_many same =
     ap (λ ms. places_after (start_places start) (zip (v.entered ++ w.entered) ms)) (map-append move_of v.results w.results)
     ∙ ap (places_after (start_places start)) (zip_append v.entered (map move_of v.results) w.entered (map move_of w.results) (as_many ∙ sym (length-map v.results move_of)))
@@ -102,7 +102,7 @@ module _ (shape : Shape) (meaning : Meaning) (FitsTree : Tree (List Value) → T
 
     -- both, job by job
     record Parts : Type 0 where
-      fold : whole_run meaning shape start (both a b) ≡ followed V W
+      fold : whole_run meaning shape start (both a b) ≡ joint_progress V W
       tickets : made start.next.0 (first_head (a.batches ++ b.batches)) (map created_lines (V.results ++ W.results))
           ≡ made start.next.0 (first_head a.batches) (map created_lines V.results) ++ made (start.next.0 + V.head.done) (first_head b.batches) (map created_lines W.results)
 
@@ -117,7 +117,7 @@ module _ (shape : Shape) (meaning : Meaning) (FitsTree : Tree (List Value) → T
         let other_ends : next_job (after left.tree).head ≡ None = subst (λ t. next_job (after t).head ≡ None) c.tree (most_over shape meaning FitsTree FitsCall owed u b is_script is_start) in
         let j = joins meaning start.next.0 u.next.0 (start_tree shape start) a.batches b.batches c.full na nb ends other_ends in
         record {
-          fold = ap (after_jobs meaning shape start (both a b)) (most_both meaning start.next.0 u.next.0 (start_tree shape start) a.batches b.batches c.full) ∙ j.fold ∙ ap (λ t. followed left (after t)) (sym c.tree);
+          fold = ap (after_jobs meaning shape start (both a b)) (most_both meaning start.next.0 u.next.0 (start_tree shape start) a.batches b.batches c.full) ∙ j.fold ∙ ap (λ t. joint_progress left (after t)) (sym c.tree);
           tickets = subst (λ t. made start.next.0 (first_head (a.batches ++ b.batches)) (map created_lines (left.results ++ (after t).results)) ≡ made start.next.0 (first_head a.batches) (map created_lines left.results) ++ made (start.next.0 + left.head.done) (first_head b.batches) (map created_lines (after t).results)) (sym c.tree) j.tickets;
         }
 

@@ -26,7 +26,7 @@ use Rattle.service_code.specs.declared.instr.Instr.TheVariants.{PushInt, PushBoo
 use Rattle.service_code.specs.declared.program.Program.{Program}
 use Rattle.service_verify.specs.Boxes.{Frame, Box}
 use Rattle.service_verify.specs.Segments.{go_on, enough, steps, segment}
-use Rattle.service_verify.specs.Steps.{Move, Runs, Paused, Lost, with_some, on_top, on_truth, on_int, truth_of, int_of, taken, has_kinds, is_held, trapped, finished, answered, put_row, cut_row, step_to, entering, ticking, next_with, jumped, with_result, runs, left, called, sent, created, code_of, places_of, acts, acted, frames_step, one_step}
+use Rattle.service_verify.specs.Steps.{Move, Runs, Paused, Lost, with_some, on_top, on_truth, on_int, truth_of, int_of, taken_values, has_kinds, is_held, trap_move, end_move, answer_move, put_row, cut_row, step_to, entering, ticking, next_with, frame_at, with_result, runs, left, called, sent, created, code_of, places_of, acts, acted, frames_step, one_step}
 
 -- an event that held these and had entered so many pauses in a context: one more is entered where it is not held, and there is room
 abbrev pub Goes : List Path → ℕ → Box → Type 0
@@ -66,7 +66,7 @@ module _ (held : List Path) (n : ℕ) where
   if_keeps true x y e f = e
   if_keeps false x y e f = f
 
-  answer_keeps : (a : Answer Value) (at : Span) (b : Box) (fields : List Value) (go : Value → Move) → ((x : Value) → K (go x)) → ((t : TrapKind) → K (trapped t at b fields)) → K (answered a at b fields go)
+  answer_keeps : (a : Answer Value) (at : Span) (b : Box) (fields : List Value) (go : Value → Move) → ((x : Value) → K (go x)) → ((t : TrapKind) → K (trap_move t at b fields)) → K (answer_move a at b fields go)
   answer_keeps (Ok x) at b fields go e f = e x
   answer_keeps (Err t) at b fields go e f = f t
 
@@ -93,7 +93,7 @@ module _ (program : Program) (levels : List Level) (f : Frame) (below : List Fra
   abbrev Kept : Move → Type 0
   Kept m = Keeps b.held b.entered m
 
-  trap_keeps : (t : TrapKind) → Kept (trapped t at b fields)
+  trap_keeps : (t : TrapKind) → Kept (trap_move t at b fields)
   trap_keeps t = refl
 
   left_keeps : (x : Option Value) → Kept (left program levels b f below fields x)
@@ -113,23 +113,23 @@ module _ (program : Program) (levels : List Level) (f : Frame) (below : List Fra
   keeps (Field i) = some_keeps b.held b.entered (slice_get fields i) _ (λ x. (refl, refl))
   keeps (SetField i) = some_keeps b.held b.entered (slice_get fields i) _ (λ x. top_keeps b.held b.entered f.stack _ (λ x rest. (refl, refl)))
   keeps (Above l i) = some_keeps b.held b.entered (field_at levels l i) _ (λ x. (refl, refl))
-  keeps (Op r) = some_keeps b.held b.entered (taken (length (takes_of r)) [] f.stack) (λ t. if has_kinds (takes_of r) t.0 then answered (apply_row r t.0) at b fields (λ x. runs program levels b below (next_with f (x ∷ t.1)) fields) else Lost) (λ t. if_keeps b.held b.entered (has_kinds (takes_of r) t.0) (answered (apply_row r t.0) at b fields (λ x. runs program levels b below (next_with f (x ∷ t.1)) fields)) Lost (answer_keeps b.held b.entered (apply_row r t.0) at b fields (λ x. runs program levels b below (next_with f (x ∷ t.1)) fields) (λ x. (refl, refl)) trap_keeps) tt)
+  keeps (Op r) = some_keeps b.held b.entered (taken_values (length (takes_of r)) [] f.stack) (λ t. if has_kinds (takes_of r) t.0 then answer_move (apply_row r t.0) at b fields (λ x. runs program levels b below (next_with f (x ∷ t.1)) fields) else Lost) (λ t. if_keeps b.held b.entered (has_kinds (takes_of r) t.0) (answer_move (apply_row r t.0) at b fields (λ x. runs program levels b below (next_with f (x ∷ t.1)) fields)) Lost (answer_keeps b.held b.entered (apply_row r t.0) at b fields (λ x. runs program levels b below (next_with f (x ∷ t.1)) fields) (λ x. (refl, refl)) trap_keeps) tt)
   keeps (PutLocal s) = some_keeps b.held b.entered (slice_get f.locals s) _ (λ m. int_keeps b.held b.entered f.stack _ (λ z rest. int_keeps b.held b.entered rest _ (λ u rest. answer_keeps b.held b.entered (apply_row put_row (m ∷ v.Int u ∷ v.Int z ∷ [])) at b fields (λ x. runs program levels b below (record (next_with f rest) { locals = slice_set f.locals s x }) fields) (λ x. (refl, refl)) trap_keeps)))
   keeps (PutField i) = some_keeps b.held b.entered (slice_get fields i) _ (λ m. int_keeps b.held b.entered f.stack _ (λ z rest. int_keeps b.held b.entered rest _ (λ u rest. answer_keeps b.held b.entered (apply_row put_row (m ∷ v.Int u ∷ v.Int z ∷ [])) at b fields (λ x. runs program levels b below (next_with f rest) (slice_set fields i x)) (λ x. (refl, refl)) trap_keeps)))
   keeps (CutLocal s) = some_keeps b.held b.entered (slice_get f.locals s) _ (λ m. int_keeps b.held b.entered f.stack _ (λ z rest. answer_keeps b.held b.entered (apply_row cut_row (m ∷ v.Int z ∷ [])) at b fields (λ x. runs program levels b below (record (next_with f rest) { locals = slice_set f.locals s x }) fields) (λ x. (refl, refl)) trap_keeps))
   keeps (CutField i) = some_keeps b.held b.entered (slice_get fields i) _ (λ m. int_keeps b.held b.entered f.stack _ (λ z rest. answer_keeps b.held b.entered (apply_row cut_row (m ∷ v.Int z ∷ [])) at b fields (λ x. runs program levels b below (next_with f rest) (slice_set fields i x)) (λ x. (refl, refl)) trap_keeps))
   keeps (Jump i) = (refl, refl)
-  keeps (JumpFalse i) = truth_keeps b.held b.entered f.stack (λ x rest. runs program levels b below (if x then next_with f rest else jumped f i rest) fields) (λ c rest. (refl, refl))
-  keeps Tick = tick_keeps b.held b.entered b.ticks (λ n. runs program levels (record b { ticks = n }) below (next_with f f.stack) fields) (trapped trap.Ticks at b fields) (λ n. (refl, refl)) (trap_keeps trap.Ticks)
-  keeps (CallOwn g) = some_keeps b.held b.entered (slice_get program.functions g) (λ callee. with_some (taken (length callee.args) [] f.stack) (λ t. Runs (called program levels b f below t.1 g false callee t.0) fields)) (λ callee. some_keeps b.held b.entered (taken (length callee.args) [] f.stack) (λ t. Runs (called program levels b f below t.1 g false callee t.0) fields) (λ t. (refl, refl)))
-  keeps (CallDown c g) = some_keeps b.held b.entered (slice_get program.functions g) _ (λ callee. some_keeps b.held b.entered (taken (length callee.args) [] f.stack) _ (λ t. int_keeps b.held b.entered t.1 _ (λ key rest. enter_keeps b.held b.entered (b.path ++ step_to program levels c.0 key ∷ []) b (λ b'. Paused (record (called program levels b' f below rest g true callee t.0) { path = b.path ++ step_to program levels c.0 key ∷ [] }) fields (pause.Down (step_to program levels c.0 key))) (trapped trap.Reach at b fields) (λ more entered is. is) (trap_keeps trap.Reach))))
+  keeps (JumpFalse i) = truth_keeps b.held b.entered f.stack (λ x rest. runs program levels b below (if x then next_with f rest else frame_at f i rest) fields) (λ c rest. (refl, refl))
+  keeps Tick = tick_keeps b.held b.entered b.ticks (λ n. runs program levels (record b { ticks = n }) below (next_with f f.stack) fields) (trap_move trap.Ticks at b fields) (λ n. (refl, refl)) (trap_keeps trap.Ticks)
+  keeps (CallOwn g) = some_keeps b.held b.entered (slice_get program.functions g) (λ callee. with_some (taken_values (length callee.args) [] f.stack) (λ t. Runs (called program levels b f below t.1 g false callee t.0) fields)) (λ callee. some_keeps b.held b.entered (taken_values (length callee.args) [] f.stack) (λ t. Runs (called program levels b f below t.1 g false callee t.0) fields) (λ t. (refl, refl)))
+  keeps (CallDown c g) = some_keeps b.held b.entered (slice_get program.functions g) _ (λ callee. some_keeps b.held b.entered (taken_values (length callee.args) [] f.stack) _ (λ t. int_keeps b.held b.entered t.1 _ (λ key rest. enter_keeps b.held b.entered (b.path ++ step_to program levels c.0 key ∷ []) b (λ b'. Paused (record (called program levels b' f below rest g true callee t.0) { path = b.path ++ step_to program levels c.0 key ∷ [] }) fields (pause.Down (step_to program levels c.0 key))) (trap_move trap.Reach at b fields) (λ more entered is. is) (trap_keeps trap.Reach))))
   keeps Return = some_keeps b.held b.entered (slice_get program.functions f.function) (λ own. with_result own.result f.stack (λ x. left program levels b f below fields x)) (λ own. result_keeps b.held b.entered own.result f.stack (λ x. left program levels b f below fields x) (λ x. left_keeps x))
   keeps Pop = top_keeps b.held b.entered f.stack (λ x rest. runs program levels b below (next_with f rest) fields) (λ x rest. (refl, refl))
-  keeps Require = truth_keeps b.held b.entered f.stack (λ x rest. if x then runs program levels b below (next_with f rest) fields else trapped trap.Require at b fields) (λ c rest. if_keeps b.held b.entered c (runs program levels b below (next_with f rest) fields) (trapped trap.Require at b fields) (refl, refl) (trap_keeps trap.Require))
-  keeps (Send t) = some_keeps b.held b.entered (slice_get program.texts t) (λ label. on_top f.stack (λ x rest. sent program levels b below (next_with f rest) fields at (record { label = label; value = x }))) (λ label. top_keeps b.held b.entered f.stack (λ x rest. sent program levels b below (next_with f rest) fields at (record { label = label; value = x })) (λ x rest. if_keeps b.held b.entered (nat_lt (length b.kept.messages) MESSAGES) _ (trapped trap.Sends at b fields) (refl, refl) (trap_keeps trap.Sends)))
-  keeps (Spawn e) = some_keeps b.held b.entered (slice_get program.shape.events e) (λ event. with_some (taken (length event.params) [] f.stack) (λ t. created program levels b below (next_with f t.1) fields at (record { event = e; args = t.0; generation = suc b.generation }))) (λ event. some_keeps b.held b.entered (taken (length event.params) [] f.stack) (λ t. created program levels b below (next_with f t.1) fields at (record { event = e; args = t.0; generation = suc b.generation })) (λ t. if_keeps b.held b.entered (b.generation == GENERATION) (trapped trap.Generation at b fields) _ (trap_keeps trap.Generation) (if_keeps b.held b.entered (nat_lt (length b.kept.created) SPAWNS) (runs program levels (record b { kept = with_call b.kept (record { event = e; args = t.0; generation = suc b.generation }) }) below (next_with f t.1) fields) (trapped trap.Spawns at b fields) (refl, refl) (trap_keeps trap.Spawns))))
-  keeps (Go c) = int_keeps b.held b.entered f.stack _ (λ key rest. enter_keeps b.held b.entered (b.path ++ step_to program levels c.0 key ∷ []) b (λ b'. Paused (record b' { frames = next_with f rest ∷ below; path = b.path ++ step_to program levels c.0 key ∷ []; held = filter (is_above (b.path ++ step_to program levels c.0 key ∷ [])) b'.held }) fields (pause.Go (step_to program levels c.0 key))) (trapped trap.Reach at b fields) (λ more entered is. is) (trap_keeps trap.Reach))
-  keeps Reply = top_keeps b.held b.entered f.stack (λ x rest. finished (Replied x) b fields) (λ x rest. refl)
+  keeps Require = truth_keeps b.held b.entered f.stack (λ x rest. if x then runs program levels b below (next_with f rest) fields else trap_move trap.Require at b fields) (λ c rest. if_keeps b.held b.entered c (runs program levels b below (next_with f rest) fields) (trap_move trap.Require at b fields) (refl, refl) (trap_keeps trap.Require))
+  keeps (Send t) = some_keeps b.held b.entered (slice_get program.texts t) (λ label. on_top f.stack (λ x rest. sent program levels b below (next_with f rest) fields at (record { label = label; value = x }))) (λ label. top_keeps b.held b.entered f.stack (λ x rest. sent program levels b below (next_with f rest) fields at (record { label = label; value = x })) (λ x rest. if_keeps b.held b.entered (nat_lt (length b.kept.messages) MESSAGES) _ (trap_move trap.Sends at b fields) (refl, refl) (trap_keeps trap.Sends)))
+  keeps (Spawn e) = some_keeps b.held b.entered (slice_get program.shape.events e) (λ event. with_some (taken_values (length event.params) [] f.stack) (λ t. created program levels b below (next_with f t.1) fields at (record { event = e; args = t.0; generation = suc b.generation }))) (λ event. some_keeps b.held b.entered (taken_values (length event.params) [] f.stack) (λ t. created program levels b below (next_with f t.1) fields at (record { event = e; args = t.0; generation = suc b.generation })) (λ t. if_keeps b.held b.entered (b.generation == GENERATION) (trap_move trap.Generation at b fields) _ (trap_keeps trap.Generation) (if_keeps b.held b.entered (nat_lt (length b.kept.created) SPAWNS) (runs program levels (record b { kept = with_call b.kept (record { event = e; args = t.0; generation = suc b.generation }) }) below (next_with f t.1) fields) (trap_move trap.Spawns at b fields) (refl, refl) (trap_keeps trap.Spawns))))
+  keeps (Go c) = int_keeps b.held b.entered f.stack _ (λ key rest. enter_keeps b.held b.entered (b.path ++ step_to program levels c.0 key ∷ []) b (λ b'. Paused (record b' { frames = next_with f rest ∷ below; path = b.path ++ step_to program levels c.0 key ∷ []; held = filter (is_above (b.path ++ step_to program levels c.0 key ∷ [])) b'.held }) fields (pause.Go (step_to program levels c.0 key))) (trap_move trap.Reach at b fields) (λ more entered is. is) (trap_keeps trap.Reach))
+  keeps Reply = top_keeps b.held b.entered f.stack (λ x rest. end_move (Replied x) b fields) (λ x rest. refl)
   keeps End = refl
 
   acted_keeps : (i : Instr) → Kept (acted program levels i at f below b fields)

@@ -21,7 +21,7 @@ use Rattle.resolved_service.specs.Jobs.{only}
 use Rattle.script_fold.specs.Lines.{Meaning, most_events}
 use Rattle.script_fold.specs.Runs.{whole_run, finished_of}
 use Rattle.service_verify.proofs.Samples.{market_shape}
-use Rattle.fold_laws.specs.Cuts.{both, followed, start_behind}
+use Rattle.fold_laws.specs.Cuts.{both, joint_progress, start_behind}
 use Rattle.fold_laws.specs.Growth.{most_added, most_contexts}
 
 abbrev hall : ℕ → Path
@@ -132,7 +132,7 @@ abbrev bare_tree : Tree (List Value)
 bare_tree = record { paths = [] ∷ []; fields = λ p. [] }
 
 -- the jobs of both, the batches and the tree of the other, and the jobs that both have done
-follows : followed (run_of (Snapshot ∷ []) [] 1 (enter bare_tree (hall 1))) (run_of (Request (call 2 0) ∷ Snapshot ∷ []) ((Snapshot ∷ []) ∷ []) 1 bare_tree)
+follows : joint_progress (run_of (Snapshot ∷ []) [] 1 (enter bare_tree (hall 1))) (run_of (Request (call 2 0) ∷ Snapshot ∷ []) ((Snapshot ∷ []) ∷ []) 1 bare_tree)
     ≡ record {
       head = record { known = Snapshot ∷ Request (call 2 0) ∷ Snapshot ∷ []; later = (Snapshot ∷ []) ∷ []; done = 2 };
       tree = bare_tree;

@@ -15,7 +15,7 @@ use Rattle.wave_base.specs.Tree.{Tree, enter}
 use Rattle.service_code.specs.declared.program.Program.{Program}
 use Rattle.service_verify.specs.Boxes.{Box, first_box}
 use Rattle.service_verify.specs.Steps.{Move, Runs, Paused, Lost, is_held}
-use Rattle.service_verify.specs.Tours.{Fields, Tour, into, halted, toured, fields_above, segment_on, tour_if, tour_after, first_tour, most_segments, code_tour}
+use Rattle.service_verify.specs.Tours.{Fields, Tour, into, tour_at_pause, tour_with, fields_above, segment_on, tour_if, tour_after, first_tour, most_segments, code_tour}
 use Rattle.fold_laws.proofs.Entering.{Goes, Pauses, Keeps, segment_keeps}
 
 -- one path more at most
@@ -47,13 +47,13 @@ module _ (program : Program) (call : Call) (first : Tree Fields) where
       let more = enter_long t.tree b.path in
       record { counted = omega (arith, one, h.counted, g.1); few = omega (arith, g.1, g.2); wide = omega (arith, one, more, h.wide) }
 
-  few_halted : (t : Tour) (b : Box) (fields : Fields) (why : Pause) → IsFew t → Pauses t.box.held t.box.entered b why → IsFew (halted t b fields why)
+  few_halted : (t : Tour) (b : Box) (fields : Fields) (why : Pause) → IsFew t → Pauses t.box.held t.box.entered b why → IsFew (tour_at_pause t b fields why)
   few_halted t b fields (pause.Go s) h g = few_into t b fields h g (is_held t.box.held b.path) refl
   few_halted t b fields (pause.Down s) h g = few_into t b fields h g (is_held t.box.held b.path) refl
   few_halted t b fields pause.Back h g = record { counted = h.counted ∙ sym g; few = omega (arith, h.few, g); wide = h.wide }
   few_halted t b fields (pause.Over r) h g = record { counted = h.counted ∙ sym g; few = omega (arith, h.few, g); wide = h.wide }
 
-  few_toured : (t : Tour) (m : Move) → IsFew t → Keeps t.box.held t.box.entered m → IsFew (toured t m)
+  few_toured : (t : Tour) (m : Move) → IsFew t → Keeps t.box.held t.box.entered m → IsFew (tour_with t m)
   few_toured t (Runs b fields) h k = h
   few_toured t (Paused b fields why) h k = few_halted t b fields why h k
   few_toured t Lost h k = h
@@ -67,7 +67,7 @@ module _ (program : Program) (call : Call) (first : Tree Fields) where
   few_after zero = record { counted = refl; few = omega arith; wide = enter_long first [] }
   few_after (suc n) = few_next (tour_after program n (first_tour program call first)) (few_after n) _
 
-  one_more : (t : Tour) (m : Move) → (toured t m).segments ≤ suc t.segments
+  one_more : (t : Tour) (m : Move) → (tour_with t m).segments ≤ suc t.segments
   one_more t (Runs b fields) = omega arith
   one_more t Lost = omega arith
   one_more t (Paused b fields (pause.Go s)) = into_more (is_held t.box.held b.path)

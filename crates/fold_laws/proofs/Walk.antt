@@ -12,7 +12,7 @@ use Rattle.wave_theory.proofs.Basics.{none_not}
 use Rattle.wave_theory.proofs.Folds.{with_done_done}
 use Rattle.script_fold.specs.Lines.{Meaning, line_by, most_of, most_jobs}
 use Rattle.script_fold.proofs.StepLemmas.{any_ticket}
-use Rattle.fold_laws.specs.Cuts.{followed}
+use Rattle.fold_laws.specs.Cuts.{joint_progress}
 use Rattle.fold_laws.proofs.Heads.{Full, with_later, more, shifted, Sound, busy, sound_first, sound_done, more_first, more_done, Over, over_of, shifted_job, shifted_done, seam, made_shifted, made_append, head_append}
 
 abbrev pub Run : Type 0
@@ -112,7 +112,7 @@ module _ (meaning : Meaning) (first other : ℕ) (tree : Tree (List Value)) (ls 
   -- while the first run has jobs, both are as far; then it is over, and the rest is done of the other
   pub data Along (n : ℕ) : Type 0 where
     before : (j : Line) → next_job (A n).head ≡ Some j → (A n).head.done ≡ n → C n ≡ ext (A n) → Tickets (A n) → Heads (A n) (more bs (A n).head) → Along n
-    behind : next_job (A n).head ≡ None → (m : ℕ) → m + (A n).head.done ≡ n → C n ≡ followed (A n) (B (A n).tree m) → Tickets (A n) → Heads (A n) (shifted (A n).head (first_head bs)) → Along n
+    behind : next_job (A n).head ≡ None → (m : ℕ) → m + (A n).head.done ≡ n → C n ≡ joint_progress (A n) (B (A n).tree m) → Tickets (A n) → Heads (A n) (shifted (A n).head (first_head bs)) → Along n
 
   over_head : (n : ℕ) → next_job (A n).head ≡ None → Over (A n).head
   over_head n e = over_of (A n).head (sane_after meaning first ls tree full n).sound e
@@ -186,15 +186,15 @@ module _ (meaning : Meaning) (first other : ℕ) (tree : Tree (List Value)) (ls 
 
   -- one job more of the other
   module _ (v : Run) (over : Over v.head) where
-    followed_more : (w : Run) → one_more first (line_by meaning) created_lines (followed v w) ≡ followed v (one_more other (line_by meaning) created_lines w)
+    followed_more : (w : Run) → one_more first (line_by meaning) created_lines (joint_progress v w) ≡ joint_progress v (one_more other (line_by meaning) created_lines w)
     followed_more w = by_job (next_job w.head) refl
       where
-        by_job : (o : Option Line) → next_job w.head ≡ o → one_more first (line_by meaning) created_lines (followed v w) ≡ followed v (with_job other (line_by meaning) created_lines w o)
-        by_job None e = stays meaning first (followed v w) (shifted_job v.head over w.head ∙ e)
+        by_job : (o : Option Line) → next_job w.head ≡ o → one_more first (line_by meaning) created_lines (joint_progress v w) ≡ joint_progress v (with_job other (line_by meaning) created_lines w o)
+        by_job None e = stays meaning first (joint_progress v w) (shifted_job v.head over w.head ∙ e)
         by_job (Some j) e =
             let y = line_by meaning (other + w.head.done) w.tree j in
-            ap (with_job first (line_by meaning) created_lines (followed v w)) (shifted_job v.head over w.head ∙ e)
-            ∙ ap (with_result first (line_by meaning) created_lines (followed v w)) (any_ticket meaning (first + (v.head.done + w.head.done)) (other + w.head.done) w.tree j)
+            ap (with_job first (line_by meaning) created_lines (joint_progress v w)) (shifted_job v.head over w.head ∙ e)
+            ∙ ap (with_result first (line_by meaning) created_lines (joint_progress v w)) (any_ticket meaning (first + (v.head.done + w.head.done)) (other + w.head.done) w.tree j)
             ∙ (λ i. record { head = shifted_done v.head over w.head (created_lines y.result) i; tree = y.tree; results = append_assoc v.results w.results (y.result ∷ []) i; entered = append_assoc v.entered w.entered (y.entered ∷ []) i })
 
   along : (n : ℕ) → Along n
@@ -209,7 +209,7 @@ module _ (meaning : Meaning) (first other : ℕ) (tree : Tree (List Value)) (ls 
           let stay : A (suc n) ≡ A n = stays meaning first (A n) e in
           behind (ap (λ (w : Run). next_job w.head) stay ∙ e) (suc m)
           (ap (λ (w : Run). suc m + w.head.done) stay ∙ one m (A n).head.done ∙ ap suc count)
-          (ap (one_more first (line_by meaning) created_lines) same ∙ followed_more (A n) (over_head n e) (B (A n).tree m) ∙ sym (ap (λ (w : Run). followed w (B w.tree (suc m))) stay))
+          (ap (one_more first (line_by meaning) created_lines) same ∙ followed_more (A n) (over_head n e) (B (A n).tree m) ∙ sym (ap (λ (w : Run). joint_progress w (B w.tree (suc m))) stay))
           (subst Tickets (sym stay) tickets)
           (subst (λ w. Heads w (shifted w.head (first_head bs))) (sym stay) heads)
         where
@@ -221,7 +221,7 @@ module _ (meaning : Meaning) (first other : ℕ) (tree : Tree (List Value)) (ls 
   -- the first run is over after so many jobs, and the other too
   module _ (na nb : ℕ) (ends : next_job (A na).head ≡ None) (other_ends : next_job (B (A na).tree nb).head ≡ None) where
     pub record Joins : Type 0 where
-      pub fold : C (na + nb) ≡ followed (A na) (B (A na).tree nb)
+      pub fold : C (na + nb) ≡ joint_progress (A na) (B (A na).tree nb)
       pub tickets : made first (first_head (ls ++ bs)) (created_by ((A na).results ++ (B (A na).tree nb).results)) ≡ made first (first_head ls) (created_by (A na).results) ++ made (first + (A na).head.done) (first_head bs) (created_by (B (A na).tree nb).results)
 
     abbrev at_end : A (na + nb) ≡ A na
@@ -233,7 +233,7 @@ module _ (meaning : Meaning) (first other : ℕ) (tree : Tree (List Value)) (ls 
     joined : Along (na + nb) → Joins
     joined (before j e done same tickets heads) = absurd (none_not (sym (ap (λ (w : Run). next_job w.head) at_end ∙ ends) ∙ e))
     joined (behind e m count same tickets heads) = record {
-      fold = same ∙ ap (λ (w : Run). followed w (B w.tree m)) at_end ∙ ap (followed (A na)) rest;
+      fold = same ∙ ap (λ (w : Run). joint_progress w (B w.tree m)) at_end ∙ ap (joint_progress (A na)) rest;
       tickets =
           ap (made first (first_head (ls ++ bs))) (map-append created_lines (A na).results (B (A na).tree nb).results)
           ∙ made_append first (first_head (ls ++ bs)) (created_by (A na).results) (created_by (B (A na).tree nb).results)

@@ -20,8 +20,8 @@ both a b = record { hosts = a.hosts; batches = a.batches ++ b.batches }
 
 -- A run, and behind it another one: the jobs, the results and the contexts entered of the one and then of the other, and the tree that
 -- the other leaves.
-abbrev pub followed : Progress (List Value) EventResult Line → Progress (List Value) EventResult Line → Progress (List Value) EventResult Line
-followed v w = record {
+abbrev pub joint_progress : Progress (List Value) EventResult Line → Progress (List Value) EventResult Line → Progress (List Value) EventResult Line
+joint_progress v w = record {
   head = record { known = v.head.known ++ w.head.known; later = w.head.later; done = v.head.done + w.head.done };
   tree = w.tree;
   results = v.results ++ w.results;
@@ -46,7 +46,7 @@ module _ (meaning : Meaning) (shape : Shape) (start : Start) where
   -- The run of both is the run of a, and behind it that of b from what a leaves. It comes to its end, tells what both tell, one after the
   -- other, and leaves what b leaves. How many jobs entered a context is each run's own count: those of both add up.
   pub record IsCut (a b : Script) : Type 0 where
-    pub fold : whole_run meaning shape start (both a b) ≡ followed (whole_run meaning shape start a) (whole_run meaning shape (start_behind a) b)
+    pub fold : whole_run meaning shape start (both a b) ≡ joint_progress (whole_run meaning shape start a) (whole_run meaning shape (start_behind a) b)
     pub over : is_over (whole_run meaning shape start (both a b)) ≡ true
     pub joined : AreJoined (finished_of meaning shape start a) (finished_of meaning shape (start_behind a) b) (finished_of meaning shape start (both a b))
     pub next : start_behind (both a b) ≡ start_after (start_behind a) (finished_of meaning shape (start_behind a) b)

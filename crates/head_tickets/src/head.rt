@@ -119,7 +119,7 @@ impl Head {
     }
 
     /// One job more is done, the first that was admitted and not done. Gives the tickets of what it created.
-    pub fn created(&mut self, calls: Seq<Call>) -> Seq<Ticket>
+    pub fn add_created(&mut self, calls: Seq<Call>) -> Seq<Ticket>
         requires room { length calls ≤ self.old.room }
         requires tickets { last_known self.old + length calls + line_count self.old.later < 2 ^ 32 }
         requires order { self.old.done < self.old.admitted }

@@ -8,7 +8,7 @@ use std::alloc::Global;
 use wave_base::SERVICE_BYTES;
 
 /// A line that tells what could stand there, if the grammar stops the text; else nothing.
-pub fn expected(alloc: Global, text: &[u8]) -> Result<Vec<u8>, HintError> {
+pub fn expected_words(alloc: Global, text: &[u8]) -> Result<Vec<u8>, HintError> {
     if text.len() > SERVICE_BYTES {
         return Ok(Vec::new(alloc));
     }

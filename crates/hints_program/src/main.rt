@@ -5,7 +5,7 @@ mod expected;
 mod groups;
 mod phrase;
 
-use expected::expected;
+use expected::expected_words;
 use input_parts::parts_of;
 use std::process::ExitCode;
 use wave_base::INPUT_BYTES;
@@ -19,7 +19,7 @@ fn main(rt: HostRuntime) -> ExitCode {
         return ExitCode::from(1);
     };
     let (text, _) = parts_of(bytes.as_slice());
-    let Ok(line) = expected(alloc, text) else {
+    let Ok(line) = expected_words(alloc, text) else {
         return ExitCode::from(1);
     };
     match write_all(&mut out, line.as_slice()) {

@@ -41,7 +41,7 @@ fn spelling(hint: Hint) -> &'static [u8] {
 }
 
 // The groups of which all is told, and then what is left.
-fn said(alloc: Global, hints: &[Hint]) -> Result<Vec<Item>, OutOfMemory> {
+fn phrases_of(alloc: Global, hints: &[Hint]) -> Result<Vec<Item>, OutOfMemory> {
     let mut all = Vec::new(alloc);
     let mut told = Vec::from_slice(alloc, hints)?;
     for group in &GROUPS {
@@ -87,7 +87,7 @@ fn joint(place: usize, count: usize) -> &'static [u8]
 /// The line that tells what could stand.
 pub fn phrase(alloc: Global, hints: &[Hint]) -> Result<Vec<u8>, OutOfMemory> {
     let mut out = Vec::new(alloc);
-    let all = said(alloc, hints)?;
+    let all = phrases_of(alloc, hints)?;
     if all.is_empty() {
         put_bytes(&mut out, b"nothing can stand here: the service has ended\n")?;
         return Ok(out);

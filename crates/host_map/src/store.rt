@@ -113,7 +113,7 @@ impl HostStore {
     }
 
     /// The paths of the contexts here that a ticket was let in to, or that moved, in any order.
-    pub fn counted(&self, alloc: Global) -> Result<Vec<Path>, OutOfMemory>
+    pub fn counted_paths(&self, alloc: Global) -> Result<Vec<Path>, OutOfMemory>
         ensures { IfOk result (λ touched. (p : path.Path) → list_any (path_eq p) touched.items ≡ is_counted (map.get self.now.store p)) }
     {
         let mut touched = Vec::new(alloc);

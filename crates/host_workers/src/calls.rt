@@ -31,7 +31,7 @@ pub(crate) fn may_rest(board: &Board, crew: &Crew, number: Worker) -> bool
 }
 
 /// The crew, once a segment was given back that took so many ticks, where one was.
-pub(crate) fn noted(mut crew: Crew, ticks: Option<u32>) -> Crew {
+pub(crate) fn with_ticks(mut crew: Crew, ticks: Option<u32>) -> Crew {
     if let Some(ticks) = ticks {
         crew.note(ticks);
     }
@@ -127,7 +127,10 @@ fn whom(board: &Board, crew: &Crew, number: Worker, more: bool) -> Option<Worker
     ensures other { IfSome result (λ w. w ≢ number) }
     ensures idle { more ≡ false → IfSome result (λ w. w.0 ≡ 0) }
 {
-    let due = board.committed().saturating_sub(crew.told() as usize) >= DUE;
+    let due = board
+        .committed_count()
+        .saturating_sub(crew.told_count() as usize)
+        >= DUE;
     if due && number != Worker(0) && crew.seat(Worker(0)) == Seat::Napping {
         return Some(Worker(0));
     }

@@ -41,12 +41,12 @@ pub(crate) fn helpers_of<'l, 'p, R, G>(
     let mut helpers = Vec::new(post.alloc);
     for number in 1..post.plan.workers {
         let pass = post.lock.split(first);
-        helpers.push(seated(post, pass, Worker(number)))?;
+        helpers.push(helper_of(post, pass, Worker(number)))?;
     }
     Ok(helpers)
 }
 
-fn seated<'l, 'p, R, G>(
+fn helper_of<'l, 'p, R, G>(
     post: &Post<'l, 'p, R, G>,
     pass: Pass<Board<'p>>,
     number: Worker,

@@ -5,7 +5,7 @@ ghost use Rattle.wave_board.specs.Taking.{MayTake};
 ghost use Rattle.host_workers.specs.inner.Calls.{IsIdle, Leaves, Naps};
 ghost use Rattle.host_workers.specs.inner.Visits.{CanBring, CanTellTo, HasFound, HasTurned, IsBrought, MayTurn, TellsTo};
 
-use crate::calls::{is_for_another, leave, may_rest, noted};
+use crate::calls::{is_for_another, leave, may_rest, with_ticks};
 use crate::offer::Offer;
 use crate::packet::Packet;
 use crate::takes::take;
@@ -28,7 +28,7 @@ pub(crate) fn turn(
 {
     match bring(board, packet) {
         Ok(ticks) => {
-            let crew = noted(board.crew(), ticks);
+            let crew = with_ticks(board.crew(), ticks);
             let offer = find(board, number, written, &crew);
             let more = is_for_another(board, &crew, &offer);
             let wakes = leave(board, number, written, crew, &offer, more);

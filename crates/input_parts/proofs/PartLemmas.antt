@@ -11,7 +11,7 @@ use Rattle.wave_text.proofs.SplitLemmas.{front_passes, is_nowhere}
 use Rattle.wave_text.specs.Lines.{is_inside, onto_first, cut_lines}
 use Rattle.wave_text.proofs.LineLemmas.{cut_first, cut_last}
 use Rattle.input_parts.specs.inner.Firsts.{IsFirst}
-use Rattle.input_parts.specs.Parts.{is_dashes, with_first, parted, ended, service_of, script_of}
+use Rattle.input_parts.specs.Parts.{is_dashes, with_first, line_parts, lines_text, service_of, script_of}
 
 is_ten : (b : ℕ) → not (b == 10) ≡ false → b ≡ 10
 is_ten b h = by (b == 10) refl h
@@ -97,21 +97,21 @@ behind_some (l ∷ ls) after = ap (with_first l) (behind_some ls after)
 -- the lines that were passed, none of dashes, and the rest
 pub record Passed (input rest : List ℕ) : Type 0 where
   pub before : List (List ℕ)
-  pub lines : parted (cut_lines input) ≡ behind before (parted (cut_lines rest))
-  pub whole : (input ≡ ended before ++ rest) ⊎ (rest ≡ [])
+  pub lines : line_parts (cut_lines input) ≡ behind before (line_parts (cut_lines rest))
+  pub whole : (input ≡ lines_text before ++ rest) ⊎ (rest ≡ [])
 
-line_taken : (before : List (List ℕ)) (line rest : List ℕ) → ended before ++ (line ++ 10 ∷ rest) ≡ ended (before ++ line ∷ []) ++ rest
+line_taken : (before : List (List ℕ)) (line rest : List ℕ) → lines_text before ++ (line ++ 10 ∷ rest) ≡ lines_text (before ++ line ∷ []) ++ rest
 line_taken before line rest = rw (flat_map-append (λ l. l ++ 10 ∷ []) before (line ∷ []), append-nil) (simp append_assoc)
 
-lines_on : (text line rest : List ℕ) → IsFirst text line rest → is_dashes line ≡ false → parted (cut_lines text) ≡ with_first line (parted (cut_lines rest))
-lines_on text line rest (inl f) h = ap parted f.lines ∙ rw h refl
-lines_on text line rest (inr f) h = ap parted f.lines ∙ rw (h, f.none) refl
+lines_on : (text line rest : List ℕ) → IsFirst text line rest → is_dashes line ≡ false → line_parts (cut_lines text) ≡ with_first line (line_parts (cut_lines rest))
+lines_on text line rest (inl f) h = ap line_parts f.lines ∙ rw h refl
+lines_on text line rest (inr f) h = ap line_parts f.lines ∙ rw (h, f.none) refl
 
 pub passed_more : (input text line rest : List ℕ) → Passed input text → 0 < length text → IsFirst text line rest → is_dashes line ≡ false → Passed input rest
 passed_more input text line rest p some f h = record {
   before = p.before ++ line ∷ [];
-  lines = p.lines ∙ ap (behind p.before) (lines_on text line rest f h) ∙ behind_one p.before line (parted (cut_lines rest));
-  whole = ⊎_elim (λ whole. ⊎_elim (λ g. inl (whole ∙ ap (λ z. ended p.before ++ z) g.whole ∙ line_taken p.before line rest)) (λ g. inr g.none) f) (λ none. absurd (omega (arith, ap length none))) p.whole;
+  lines = p.lines ∙ ap (behind p.before) (lines_on text line rest f h) ∙ behind_one p.before line (line_parts (cut_lines rest));
+  whole = ⊎_elim (λ whole. ⊎_elim (λ g. inl (whole ∙ ap (λ z. lines_text p.before ++ z) g.whole ∙ line_taken p.before line rest)) (λ g. inr g.none) f) (λ none. absurd (omega (arith, ap length none))) p.whole;
 }
 
 -- ---- where the line of dashes is found
@@ -119,11 +119,11 @@ passed_more input text line rest p some f h = record {
 record Found (input text : List ℕ) (rest : List ℕ) : Type 0 where
   pub before : List (List ℕ)
   pub after : List (List ℕ)
-  pub parts : parted (cut_lines input) ≡ Some (before, after)
-  pub front : input ≡ ended before ++ text
+  pub parts : line_parts (cut_lines input) ≡ Some (before, after)
+  pub front : input ≡ lines_text before ++ text
   pub back : join_with_byte 10 after ≡ rest
 
-whole_text : (before : List (List ℕ)) (input text : List ℕ) → 0 < length text → (input ≡ ended before ++ text) ⊎ (text ≡ []) → input ≡ ended before ++ text
+whole_text : (before : List (List ℕ)) (input text : List ℕ) → 0 < length text → (input ≡ lines_text before ++ text) ⊎ (text ≡ []) → input ≡ lines_text before ++ text
 whole_text before input text some (inl e) = e
 whole_text before input text some (inr e) = absurd (omega (arith, ap length e))
 
@@ -131,14 +131,14 @@ found : (input text line rest : List ℕ) → Passed input text → 0 < length t
 found input text line rest p some (inl f) h = record {
   before = p.before;
   after = cut_lines rest;
-  parts = p.lines ∙ ap (λ ls. behind p.before (parted ls)) f.lines ∙ rw h (behind_some p.before (cut_lines rest));
+  parts = p.lines ∙ ap (λ ls. behind p.before (line_parts ls)) f.lines ∙ rw h (behind_some p.before (cut_lines rest));
   front = whole_text p.before input text some p.whole;
   back = joined_again rest;
 }
 found input text line rest p some (inr f) h = record {
   before = p.before;
   after = [];
-  parts = p.lines ∙ ap (λ ls. behind p.before (parted ls)) f.lines ∙ rw h (behind_some p.before []);
+  parts = p.lines ∙ ap (λ ls. behind p.before (line_parts ls)) f.lines ∙ rw h (behind_some p.before []);
   front = whole_text p.before input text some p.whole;
   back = sym f.none;
 }
@@ -148,7 +148,7 @@ pub service_found : (input text line rest : List ℕ) → Passed input text → 
 service_found input text line rest p some f h =
     let so = found input text line rest p some f h in
     ap (λ z. take (length input - length text) z) so.front
-    ∙ take_at (ended so.before) text (length input - length text) (omega (arith, ap length so.front, length-append (ended so.before) text))
+    ∙ take_at (lines_text so.before) text (length input - length text) (omega (arith, ap length so.front, length-append (lines_text so.before) text))
     ∙ rw so.parts refl
 
 pub script_found : (input text line rest : List ℕ) → Passed input text → 0 < length text → IsFirst text line rest → is_dashes line ≡ true
@@ -157,5 +157,5 @@ script_found input text line rest p some f h =
     let so = found input text line rest p some f h in
     rw so.parts (ap Some so.back)
 
-pub none_found : (input : List ℕ) → Passed input [] → parted (cut_lines input) ≡ None
+pub none_found : (input : List ℕ) → Passed input [] → line_parts (cut_lines input) ≡ None
 none_found input p = p.lines ∙ behind_none p.before

@@ -14,22 +14,22 @@ with_first l None = None
 with_first l (Some x) = Some (l ∷ x.0, x.1)
 
 -- the lines before the first one of dashes, and those behind it, where there is one
-abbrev pub parted : List (List ℕ) → Option (List (List ℕ) × List (List ℕ))
-parted [] = None
-parted (l ∷ ls) = if is_dashes l then Some ([], ls) else with_first l (parted ls)
+abbrev pub line_parts : List (List ℕ) → Option (List (List ℕ) × List (List ℕ))
+line_parts [] = None
+line_parts (l ∷ ls) = if is_dashes l then Some ([], ls) else with_first l (line_parts ls)
 
 -- each line with the line feed that ends it
-abbrev pub ended : List (List ℕ) → List ℕ
-ended = flat_map (λ l. l ++ 10 ∷ [])
+abbrev pub lines_text : List (List ℕ) → List ℕ
+lines_text = flat_map (λ l. l ++ 10 ∷ [])
 
 -- the text before the first line of dashes, and all where there is none
 abbrev pub service_of : List ℕ → List ℕ
-service_of input = option_map_or (λ (x : List (List ℕ) × List (List ℕ)). ended x.0) (parted (cut_lines input)) input
+service_of input = option_map_or (λ (x : List (List ℕ) × List (List ℕ)). lines_text x.0) (line_parts (cut_lines input)) input
 
-abbrev pub joined : Option (List (List ℕ) × List (List ℕ)) → Option (List ℕ)
-joined None = None
-joined (Some x) = Some (join_with_byte 10 x.1)
+abbrev pub text_behind : Option (List (List ℕ) × List (List ℕ)) → Option (List ℕ)
+text_behind None = None
+text_behind (Some x) = Some (join_with_byte 10 x.1)
 
 -- the text behind the first line of dashes, where there is one
 abbrev pub script_of : List ℕ → Option (List ℕ)
-script_of input = joined (parted (cut_lines input))
+script_of input = text_behind (line_parts (cut_lines input))

@@ -67,7 +67,7 @@ fn walk_through(
     go(&mut walk, alloc, plan, journal, shown, count)?;
     Ok(Replayed {
         steps: count as u32,
-        finished: walk.machine.finished(),
+        finished: walk.machine.is_finished(),
         shown: shown as u32,
         glance,
     })

@@ -64,7 +64,7 @@ fn advance(
         walk.take(alloc, plan, &label)?;
         return Ok(());
     }
-    let enabled = walk.machine.enabled()?;
+    let enabled = walk.machine.enabled_labels()?;
     Err(ReplayError::Refused {
         step: i as u32 + 1,
         label,

@@ -6,7 +6,7 @@ use Rattle.wave_labels.specs.declared.label.Act.TheVariants as act
 use Rattle.wave_text.specs.Splits.{HasNone}
 use Rattle.journal_text.specs.declared.verb.Verb.{Verb}
 use Rattle.journal_text.specs.declared.verb.Verb.TheVariants.{Admit, Queue, Grant, Visit, Start, Stop, Free, Pass, Land, Commit}
-use Rattle.journal_text.specs.LabelTexts.{spaced, act_words}
+use Rattle.journal_text.specs.LabelTexts.{words_text, act_words}
 use Rattle.journal_text.specs.inner.Parts.{IsWordOf}
 use Rattle.journal_text.specs.inner.Verbs.{word_of, verb_of, verb_in, operands}
 
@@ -46,5 +46,5 @@ word_is_solid Pass = refl
 word_is_solid Land = refl
 word_is_solid Commit = refl
 
-pub act_parts : (shape : Shape) (text w r : List ℕ) → IsWordOf text w r → (a : Act) → text ≡ spaced (act_words shape a) → (w ≡ word_of (verb_in a)) × (r ≡ spaced (operands shape a))
-act_parts shape text w r word a e = word (word_of (verb_in a)) (operands shape a) (word_is_solid (verb_in a)) (e ∙ ap spaced (act_is shape a))
+pub act_parts : (shape : Shape) (text w r : List ℕ) → IsWordOf text w r → (a : Act) → text ≡ words_text (act_words shape a) → (w ≡ word_of (verb_in a)) × (r ≡ words_text (operands shape a))
+act_parts shape text w r word a e = word (word_of (verb_in a)) (operands shape a) (word_is_solid (verb_in a)) (e ∙ ap words_text (act_is shape a))

@@ -9,7 +9,7 @@ use Rattle.wave_labels.specs.declared.label.Label.{Label}
 use Rattle.wave_text.specs.Splits.{HasNone, IsSplit}
 use Rattle.wave_text.proofs.SplitLemmas.{none-append, one_split, nowhere}
 use Rattle.journal_text.specs.Fits.{HasPath, HasNumbers, IsLabel}
-use Rattle.journal_text.specs.LabelTexts.{spaced, act_words, label_words, line_text}
+use Rattle.journal_text.specs.LabelTexts.{words_text, act_words, label_words, line_text}
 use Rattle.journal_text.specs.Verdicts.{HasNoLine}
 use Rattle.journal_text.specs.inner.Lines.{IsNoLine}
 use Rattle.journal_text.proofs.SolidLemmas.{IsSolid, solid-append, solid_has_none, decimal_solid, ticket_solid, mail_solid, path_solid}
@@ -20,10 +20,10 @@ abbrev AreSolid : List (List ℕ) → Type 0
 AreSolid [] = Unit {0}
 AreSolid (w ∷ ws) = IsSolid w × AreSolid ws
 
-spaced_has_none : (ws : List (List ℕ)) → AreSolid ws → HasNone 10 (spaced ws)
+spaced_has_none : (ws : List (List ℕ)) → AreSolid ws → HasNone 10 (words_text ws)
 spaced_has_none [] h = refl
 spaced_has_none (w ∷ []) h = solid_has_none 10 (lit< tt) w h.0
-spaced_has_none (w ∷ v ∷ ws) h = none-append 10 w (32 ∷ spaced (v ∷ ws)) (solid_has_none 10 (lit< tt) w h.0) (spaced_has_none (v ∷ ws) h.1)
+spaced_has_none (w ∷ v ∷ ws) h = none-append 10 w (32 ∷ words_text (v ∷ ws)) (solid_has_none 10 (lit< tt) w h.0) (spaced_has_none (v ∷ ws) h.1)
 
 module _ (shape : Shape) (names : HasNames shape) where
   act_solid : (a : Act) → HasPath shape a → HasNumbers a → AreSolid (act_words shape a)

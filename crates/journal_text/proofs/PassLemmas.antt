@@ -14,7 +14,7 @@ use Rattle.path_text.specs.PathTexts.{path_text}
 use Rattle.journal_text.specs.declared.verb.Verb.TheVariants.{Pass}
 use Rattle.journal_text.specs.Fits.{IsMail}
 use Rattle.path_text.specs.Found.{HasKeys}
-use Rattle.journal_text.specs.LabelTexts.{spaced, mail_text}
+use Rattle.journal_text.specs.LabelTexts.{words_text, mail_text}
 use Rattle.journal_text.specs.inner.Parts.{IsWordOf}
 use Rattle.journal_text.specs.inner.Verbs.{verb_in}
 use Rattle.journal_text.proofs.SolidLemmas.{solid_has_none, mail_solid, path_solid}
@@ -32,7 +32,7 @@ pub record AreWords (shape : Shape) (m : MailId) (p : Path) (g : Host) (w1 w2 r3
 
 module _ (shape : Shape) (names : HasNames shape) (text w1 r1 w2 r2 w3 r3 : List ℕ) (first : IsWordOf text w1 r1) (second : IsWordOf r1 w2 r2) (third : IsWordOf r2 w3 r3) where
   pub pass_words : (m : MailId) (p : Path) (g : Host) → is_path shape p ≡ true → IsMail m → HasKeys p
-      → text ≡ spaced (mail_text m ∷ path_text shape p ∷ codes "to" ∷ decimal g.0 ∷ []) → AreWords shape m p g w1 w2 r3
+      → text ≡ words_text (mail_text m ∷ path_text shape p ∷ codes "to" ∷ decimal g.0 ∷ []) → AreWords shape m p g w1 w2 r3
   pass_words m p g hp hm hk e =
       let two = two_words text w1 r1 w2 r2 first second (mail_text m) (path_text shape p) (codes "to" ∷ decimal g.0 ∷ [])
       (solid_has_none 32 (lit< tt) (mail_text m) (mail_solid m hm)) (solid_has_none 32 (lit< tt) (path_text shape p) (path_solid shape names p hp hk)) e in

@@ -10,10 +10,10 @@ use Rattle.wave_labels.specs.declared.label.MailId.{MailId}
 use Rattle.path_text.specs.PathTexts.{path_text}
 
 -- words, with one space between two of them
-abbrev pub spaced : List (List ℕ) → List ℕ
-spaced [] = []
-spaced (w ∷ []) = w
-spaced (w ∷ v ∷ ws) = w ++ 32 ∷ spaced (v ∷ ws)
+abbrev pub words_text : List (List ℕ) → List ℕ
+words_text [] = []
+words_text (w ∷ []) = w
+words_text (w ∷ v ∷ ws) = w ++ 32 ∷ words_text (v ∷ ws)
 
 -- #t
 abbrev pub ticket_text : Ticket → List ℕ
@@ -41,8 +41,8 @@ abbrev pub label_words : Shape → Label → List (List ℕ)
 label_words shape l = (119 ∷ decimal l.worker.0) ∷ (104 ∷ decimal l.host.0) ∷ act_words shape l.act
 
 abbrev pub label_text : Shape → Label → List ℕ
-label_text shape l = spaced (label_words shape l)
+label_text shape l = words_text (label_words shape l)
 
 -- i wW hH Act ..
 abbrev pub line_text : Shape → ℕ → Label → List ℕ
-line_text shape i l = spaced (decimal i ∷ label_words shape l)
+line_text shape i l = words_text (decimal i ∷ label_words shape l)

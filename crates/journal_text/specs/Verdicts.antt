@@ -5,7 +5,7 @@ use Rattle.wave_labels.specs.declared.label.Label.{Label}
 use Rattle.journal_text.specs.declared.error.JournalError.{JournalError}
 use Rattle.journal_text.specs.declared.error.JournalError.TheVariants.{Syntax, OutOfMemory}
 use Rattle.journal_text.specs.Fits.{IsLabel}
-use Rattle.wave_text.specs.Counted.{counted, HasNoHead}
+use Rattle.wave_text.specs.Counted.{counted_lines, HasNoHead}
 use Rattle.wave_text.specs.Verdicts.{IsOnly}
 use Rattle.journal_text.specs.JournalTexts.{IsJournalText, labels_text}
 use Rattle.journal_text.specs.LabelTexts.{line_text}
@@ -16,7 +16,7 @@ HasNoLine shape i text = (l : Label) (rest : List ℕ) → IsLabel shape l → t
 
 -- behind the head and the lines of these labels stands a line that is none
 pub record StopsAfter (shape : Shape) (text : List ℕ) (before : List Label) (rest : List ℕ) : Type 0 where
-  pub spelled : text ≡ counted (codes "journal ") (labels_text shape 1 before ++ rest)
+  pub spelled : text ≡ counted_lines (codes "journal ") (labels_text shape 1 before ++ rest)
   pub fit : All (IsLabel shape) before
   pub some : rest ≡ [] → ⊥
   pub none : HasNoLine shape (length before + 1) rest

@@ -5,7 +5,7 @@ ghost use Rattle.std.specs.Fmt.{decimal};
 ghost use Rattle.path_text.specs.PathTexts.{path_text};
 ghost use Rattle.journal_text.specs.Fits.{IsTicket, IsMail, HasNumbers};
 ghost use Rattle.path_text.specs.Found.{HasKeys};
-ghost use Rattle.journal_text.specs.LabelTexts.{spaced, ticket_text, mail_text, act_words, label_text, line_text};
+ghost use Rattle.journal_text.specs.LabelTexts.{words_text, ticket_text, mail_text, act_words, label_text, line_text};
 
 use path_text::put_path;
 use std::alloc::Global;
@@ -47,7 +47,7 @@ fn put_at(alloc: Global, out: &mut Vec<u8>, shape: &Shape, path: &Path) -> Resul
 
 // Appends the word of an act and a ticket.
 fn put_of(alloc: Global, out: &mut Vec<u8>, word: &[u8], ticket: Ticket) -> Result<(), OutOfMemory>
-    ensures text { OnOk result (out.new.items ≡ out.old.items ++ spaced (word.now ∷ ticket_text ticket ∷ [])) }
+    ensures text { OnOk result (out.new.items ≡ out.old.items ++ words_text (word.now ∷ ticket_text ticket ∷ [])) }
     ensures number { IsTicket ticket }
 {
     put_bytes(out, word)?;
@@ -64,7 +64,7 @@ fn put_ticket_at(
     ticket: Ticket,
     path: &Path,
 ) -> Result<(), OutOfMemory>
-    ensures text { OnOk result (out.new.items ≡ out.old.items ++ spaced (word.now ∷ ticket_text ticket ∷ path_text shape.now path.now ∷ [])) }
+    ensures text { OnOk result (out.new.items ≡ out.old.items ++ words_text (word.now ∷ ticket_text ticket ∷ path_text shape.now path.now ∷ [])) }
     ensures numbers { OnOk result (IsTicket ticket × HasKeys path.now) }
 {
     put_of(alloc, out, word, ticket)?;
@@ -80,7 +80,7 @@ fn put_mail_at(
     mail: MailId,
     path: &Path,
 ) -> Result<(), OutOfMemory>
-    ensures text { OnOk result (out.new.items ≡ out.old.items ++ spaced (word.now ∷ mail_text mail ∷ path_text shape.now path.now ∷ [])) }
+    ensures text { OnOk result (out.new.items ≡ out.old.items ++ words_text (word.now ∷ mail_text mail ∷ path_text shape.now path.now ∷ [])) }
     ensures numbers { OnOk result (IsMail mail × HasKeys path.now) }
 {
     put_bytes(out, word)?;
@@ -98,7 +98,7 @@ fn put_pass(
     path: &Path,
     to: Host,
 ) -> Result<(), OutOfMemory>
-    ensures text { OnOk result (out.new.items ≡ out.old.items ++ spaced (act_words shape.now (Act.Pass mail path.now to))) }
+    ensures text { OnOk result (out.new.items ≡ out.old.items ++ words_text (act_words shape.now (Act.Pass mail path.now to))) }
     ensures numbers { OnOk result (HasNumbers (Act.Pass mail path.now to)) }
 {
     put_mail_at(alloc, out, shape, b"Pass", mail, path)?;
@@ -108,7 +108,7 @@ fn put_pass(
 
 // Appends the words of an act.
 fn put_act(alloc: Global, out: &mut Vec<u8>, shape: &Shape, act: &Act) -> Result<(), OutOfMemory>
-    ensures text { OnOk result (out.new.items ≡ out.old.items ++ spaced (act_words shape.now act.now)) }
+    ensures text { OnOk result (out.new.items ≡ out.old.items ++ words_text (act_words shape.now act.now)) }
     ensures numbers { OnOk result (HasNumbers act.now) }
 {
     match act {

@@ -7,7 +7,7 @@ use mathlib.Core.Option.{some, some-injective, some-ne-none}
 use lib.ListN.{get_elem?}
 use borrow.Author.Tests.{ltb-true, ltb-false}
 use Rattle.kept_lock.specs.declared.view.Account.{Account}
-use Rattle.kept_lock.specs.History.{StartsWith, entries_of, later_than, longer}
+use Rattle.kept_lock.specs.History.{StartsWith, entries_of, later_than, longer_history}
 
 module _ {E : Type 0} (owner : E → ℕ) where
   pub own_all : (n : ℕ) (xs : List E) → All (λ e. owner e ≡ n) xs → entries_of owner n xs ≡ xs
@@ -81,17 +81,17 @@ shorter_begins (x ∷ xs) (y ∷ ys) r q e l =
 
 module _ {E : Type 0} (xs ys : List E) where
   -- the longer of two beginnings of a list begins it, and each of the two begins the longer
-  pub longer_begins : (log : List E) → StartsWith log xs → StartsWith log ys → StartsWith log (longer xs ys)
+  pub longer_begins : (log : List E) → StartsWith log xs → StartsWith log ys → StartsWith log (longer_history xs ys)
   longer_begins log a b = elim (ltb (length xs) (length ys)) as (λ t. StartsWith log (cond t ys xs)) [ true ↦ b | false ↦ a ]
 
-  pub longer_first : (log : List E) → StartsWith log xs → StartsWith log ys → StartsWith (longer xs ys) xs
+  pub longer_first : (log : List E) → StartsWith log xs → StartsWith log ys → StartsWith (longer_history xs ys) xs
   longer_first log a b = by_test (ltb (length xs) (length ys)) refl
     where
       by_test : (t : Bool) → ltb (length xs) (length ys) ≡ t → StartsWith (cond t ys xs) xs
       by_test true e = shorter_begins xs ys a.0 b.0 (sym a.1 ∙ b.1) (let l : length xs < length ys = ltb-true _ _ e in omega arith)
       by_test false e = ([], sym (append-nil xs))
 
-  pub longer_second : (log : List E) → StartsWith log xs → StartsWith log ys → StartsWith (longer xs ys) ys
+  pub longer_second : (log : List E) → StartsWith log xs → StartsWith log ys → StartsWith (longer_history xs ys) ys
   longer_second log a b = by_test (ltb (length xs) (length ys)) refl
     where
       by_test : (t : Bool) → ltb (length xs) (length ys) ≡ t → StartsWith (cond t ys xs) ys

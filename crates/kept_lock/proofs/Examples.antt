@@ -1,7 +1,7 @@
 -- The definitions at small values, where they compute.
 use Rattle.std.proofs.Common.{◌≡◌, ℕ, List, [], ◌∷◌, refl}
 use Rattle.kept_lock.specs.declared.view.Known.{Known}
-use Rattle.kept_lock.specs.History.{entries_of, later_than, longer}
+use Rattle.kept_lock.specs.History.{entries_of, later_than, longer_history}
 use Rattle.kept_lock.specs.Knowing.{first, entered, left_at, counted_on, next_pass, joined}
 
 -- an entry is its owner's number and a note
@@ -26,10 +26,10 @@ what_came_later = refl
 nothing_came_later : later_than day day ≡ []
 nothing_came_later = refl
 
-the_longer_one : longer ((0, 7) ∷ []) day ≡ day
+the_longer_one : longer_history ((0, 7) ∷ []) day ≡ day
 the_longer_one = refl
 
-the_first_of_two_as_long : longer {E = ℕ} (1 ∷ 2 ∷ []) (3 ∷ 4 ∷ []) ≡ 1 ∷ 2 ∷ []
+the_first_of_two_as_long : longer_history {E = ℕ} (1 ∷ 2 ∷ []) (3 ∷ 4 ∷ []) ≡ 1 ∷ 2 ∷ []
 the_first_of_two_as_long = refl
 
 -- the first pass makes two more, which are numbered 1 and 2

@@ -18,5 +18,5 @@ abbrev pub Adds : {E : Type 0} → (E → ℕ) → ℕ → List E → List E →
 Adds {E} owner number before after = (more : List E) × (after ≡ before ++ more) × All (λ e. owner e ≡ number) more
 
 -- the longer of two histories, and the first where they are equally long
-abbrev pub longer : {E : Type 0} → List E → List E → List E
-longer xs ys = if nat_lt (length xs) (length ys) then ys else xs
+abbrev pub longer_history : {E : Type 0} → List E → List E → List E
+longer_history xs ys = if nat_lt (length xs) (length ys) then ys else xs

@@ -2,7 +2,7 @@
 use Rattle.std.specs.Prelude.{◌≡◌, ℕ, ◌+◌, List, [], ◌∷◌, ◌++◌, All}
 use Rattle.kept_lock.specs.declared.view.Known.{Known}
 use Rattle.kept_lock.specs.declared.view.Account.{Account}
-use Rattle.kept_lock.specs.History.{StartsWith, entries_of, later_than, longer}
+use Rattle.kept_lock.specs.History.{StartsWith, entries_of, later_than, longer_history}
 
 module _ {E : Type 0} where
   -- the history begins with what the pass has seen, and has of the pass's own entries just those that it made
@@ -43,4 +43,4 @@ module _ {E : Type 0} where
 
   -- the pass, once the other is joined to it
   abbrev pub joined : Known E → Known E → Known E
-  joined pass other = record (with_accounts pass other) { seen = longer pass.seen other.seen }
+  joined pass other = record (with_accounts pass other) { seen = longer_history pass.seen other.seen }

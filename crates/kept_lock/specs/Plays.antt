@@ -4,7 +4,7 @@ use Rattle.atomic_table.specs.Table.{Me, Step}
 use Rattle.kept_lock.specs.declared.view.View.{View}
 use Rattle.kept_lock.specs.declared.view.Place.{Place}
 use Rattle.kept_lock.specs.declared.view.Place.TheVariants.{Outside, Inside, Closing}
-use Rattle.kept_lock.specs.History.{StartsWith, longer}
+use Rattle.kept_lock.specs.History.{StartsWith, longer_history}
 use Rattle.kept_lock.specs.Knowing.{Agrees, Accounts, entered, left_at, counted_on, next_pass, with_accounts}
 
 module _ {N E : Type 0} where
@@ -29,7 +29,7 @@ module _ {N E : Type 0} where
 
   -- the look after a join: the pass has seen the longer of the two histories
   abbrev pub heard : View N E → View N E
-  heard v = record { name = v.name; place = v.place; told = []; known = entered v.known (longer v.known.seen v.told) }
+  heard v = record { name = v.name; place = v.place; told = []; known = entered v.known (longer_history v.known.seen v.told) }
 
 -- the value stands for the name, where there is one
 abbrev pub stands_for : {V N : Type 0} → (V → N → Type 0) → V → Option N → Type 0
@@ -80,8 +80,8 @@ module _ {V N E : Type 0} where
   -- a look: the pass has seen the longer of the two histories, which begins with both
   pub record Hears (before after : Me (Option V) (View N E)) : Type 0 where
     pub now : after ≡ (heard before.0, before.1)
-    pub own : StartsWith (longer before.0.known.seen before.0.told) before.0.known.seen
-    pub told : StartsWith (longer before.0.known.seen before.0.told) before.0.told
+    pub own : StartsWith (longer_history before.0.known.seen before.0.told) before.0.known.seen
+    pub told : StartsWith (longer_history before.0.known.seen before.0.told) before.0.told
 
   abbrev pub Heard : Step (Option V) → Me (Option V) (View N E) → ℕ → Me (Option V) (View N E) → Type 0
   Heard st before found after = Hears before after

@@ -27,7 +27,7 @@ impl<V> Held<V> {
     {
         match Box::new(alloc, value) {
             Ok(boxed) => Ok(Held { boxed }),
-            Err(refused) => Err(OutOfMemory::parted(refused)),
+            Err(refused) => Err(OutOfMemory::of_refused(refused)),
         }
     }
 

@@ -45,7 +45,7 @@ impl Entry {
         ensures path { result.path ≡ path }
         ensures label { label_at result (path_of label.now.act) ≡ label.now }
     {
-        let (kind, mail) = parted(&label.act);
+        let (kind, mail) = kind_and_mail(&label.act);
         Entry {
             mail,
             path,
@@ -68,7 +68,7 @@ impl Entry {
 }
 
 // An act as its kind and its mail.
-fn parted(act: &Act) -> (Kind, MailId)
+fn kind_and_mail(act: &Act) -> (Kind, MailId)
     ensures { act_at result.0 result.1 (path_of act.now) ≡ act.now }
 {
     match *act {

@@ -13,7 +13,7 @@ use Rattle.wave_base.specs.declared.trap.TrapKind.{TrapKind}
 use Rattle.wave_base.specs.declared.trap.TrapKind.TheVariants.{Overflow, DivZero, Absent as AbsentKey, Full, TooLong, Require, Ticks, Sends, Spawns, Generation, Reach}
 use Rattle.wave_text.specs.Places.{place_text}
 use Rattle.wave_text.specs.ValueTexts.{value_text}
-use Rattle.wave_base.specs.Text.{quoted}
+use Rattle.wave_base.specs.Text.{quoted_text}
 use Rattle.path_text.specs.PathTexts.{path_text}
 
 abbrev pub trap_name : TrapKind → List ℕ
@@ -46,7 +46,7 @@ outcome_text shape name (Shots shots) = codes "snapshot " ++ decimal (length sho
 
 -- send "label" value
 abbrev pub message_text : Message → List ℕ
-message_text m = codes "send " ++ quoted m.label ++ codes " " ++ value_text m.value
+message_text m = codes "send " ++ quoted_text m.label ++ codes " " ++ value_text m.value
 
 -- made #m
 abbrev pub made_text : Ticket → List ℕ

@@ -15,7 +15,7 @@ use Rattle.mace_grammar.specs.Grammar as g
 use Rattle.mace_grammar.specs.inner.Readers as r
 use Rattle.mace_grammar.specs.inner.Run.{rest_of}
 use Rattle.mace_grammar.specs.Nest.{nest_after, IsShallow}
-use Rattle.mace_grammar.specs.Spelled.{words, plain, Spelled, Begun}
+use Rattle.mace_grammar.specs.Spelled.{words, plain_token, Spelled, Begun}
 use Rattle.mace_grammar.proofs.Outcomes.{left}
 use Rattle.mace_grammar.proofs.Reading.{Reads, whole_found, whole_only, shorter}
 use Rattle.mace_grammar.proofs.DeclReads.{service}
@@ -36,9 +36,9 @@ reads ts =
 
 -- ---- words
 
-pub erased_words : (ts : List Token) → erased ts ≡ map plain (words ts)
+pub erased_words : (ts : List Token) → erased ts ≡ map plain_token (words ts)
 erased_words [] = refl
-erased_words (t ∷ ts) = ap (λ l. plain t.word ∷ l) (erased_words ts)
+erased_words (t ∷ ts) = ap (λ l. plain_token t.word ∷ l) (erased_words ts)
 
 -- the judge on the erased tokens
 erased_judge : (ts : List Token) → judge (erased ts) (erased ts) ≡ map_outcome bare_service (judge ts ts)
@@ -52,7 +52,7 @@ spelled_by ts s h = subst (λ l. g.service.Spells (bare_service s) l) (erased_wo
 -- a list of words has at most one tree, up to places
 pub one_tree : (ws : List Word) (s t : ServiceTree) → Spelled s ws → Spelled t ws → SameUpToSpans s t
 one_tree ws s t h k =
-    let ps = map plain ws in
+    let ps = map plain_token ws in
     let x = whole_only kind g.service (judge ps) (r.if_key key.Service) [] false ps (reads ps) (bare_service s) h in
     let y = whole_only kind g.service (judge ps) (r.if_key key.Service) [] false ps (reads ps) (bare_service t) k in
     ap (λ o. value_of (bare_service s) o) (sym x ∙ y)
@@ -62,15 +62,15 @@ one_tree ws s t h k =
     value_of d (Err e) = d
 
 pub spelled_begun : (ws : List Word) (s : ServiceTree) → Spelled s ws → Begun ws
-spelled_begun ws s h = (service 0).begun (bare_service s) (map plain ws) h
+spelled_begun ws s h = (service 0).begun (bare_service s) (map plain_token ws) h
 
-front_split : (ws : List Word) (m n : ℕ) → m ≤ n → map plain (take n ws) ≡ map plain (take m ws) ++ map plain (take (n - m) (drop m ws))
+front_split : (ws : List Word) (m n : ℕ) → m ≤ n → map plain_token (take n ws) ≡ map plain_token (take m ws) ++ map plain_token (take (n - m) (drop m ws))
 front_split ws m n h =
     let e : n ≡ m + (n - m) = omega arith in
-    ap (λ i. map plain (take i ws)) e ∙ ap (map plain) (take-add m (n - m) ws) ∙ map-append plain (take m ws) (take (n - m) (drop m ws))
+    ap (λ i. map plain_token (take i ws)) e ∙ ap (map plain_token) (take-add m (n - m) ws) ∙ map-append plain_token (take m ws) (take (n - m) (drop m ws))
 
 pub begun_front : (ws : List Word) (m n : ℕ) → m ≤ n → Begun (take n ws) → Begun (take m ws)
-begun_front ws m n h b = (service 0).closed (map plain (take m ws)) (map plain (take (n - m) (drop m ws))) (subst (λ l. g.service.Begins l) (front_split ws m n h) b)
+begun_front ws m n h b = (service 0).closed (map plain_token (take m ws)) (map plain_token (take (n - m) (drop m ws))) (subst (λ l. g.service.Begins l) (front_split ws m n h) b)
 
 pub begun_all : (ws : List Word) (m : ℕ) → Begun ws → Begun (take m ws)
 begun_all ws m b = ⊎_elim
@@ -118,7 +118,7 @@ ok_back (Ok p) a h = (p.0, ap (λ l. Ok (p.0, l)) (nothing p.1 (ap rest_of h)))
 ok_back (Err e) a h = cc
 
 -- where the tokens stop, in words
-pub judge_place : (ts rest : List Token) → rest ≡ rest_of (judge ts ts) → ((s : ServiceTree) → judge ts ts ≡ Ok (s, []) → ⊥) → IsPlace g.service (map plain (words ts)) (length ts - length rest)
+pub judge_place : (ts rest : List Token) → rest ≡ rest_of (judge ts ts) → ((s : ServiceTree) → judge ts ts ≡ Ok (s, []) → ⊥) → IsPlace g.service (map plain_token (words ts)) (length ts - length rest)
 judge_place ts rest h n =
     let es = erased ts in
     let o = map_outcome bare_service (judge ts ts) in

@@ -2,15 +2,15 @@
 use Rattle.std.proofs.Common.{ℕ, zero, suc, ◌≤◌, List, [], ◌++◌, length, true, false, refl, sym, subst, arith}
 use Rattle.mace_lexer.specs.declared.token.Token.{Token}
 use Rattle.mace_grammar.specs.declared.class.Class.{Class}
-use Rattle.mace_grammar.specs.inner.Run.{Reader, deeper}
-use Rattle.mace_grammar.specs.Part.{Part, never, nested, deep}
+use Rattle.mace_grammar.specs.inner.Run.{Reader, nested_reader}
+use Rattle.mace_grammar.specs.Part.{Part, never, nested_part, deep_part}
 use Rattle.mace_grammar.proofs.Outcomes.{left, nil_front}
 use Rattle.mace_grammar.proofs.Reading.{Reads, Heads, shorter}
 
 module _ (class : Token → Class) where
   module _ {A : Type 0} (body : Part A → Part A) (body_run : ℕ → Reader A → Reader A) (f goes : List Class)
       (step : (m : ℕ) (p p' : Part A) (run : Reader A) → Reads class m p p' run f false goes → Reads class (suc m) (body p) (body p') (body_run m run) f false goes) where
-    nested_none : (n : ℕ) → Reads class 0 never (nested body n) (deeper body_run 0) f false goes
+    nested_none : (n : ℕ) → Reads class 0 never (nested_part body n) (nested_reader body_run 0) f false goes
     nested_none zero = record {
       sound = λ ts rest a e. cc;
       stuck = λ ts rest e. ([], cc, refl);
@@ -22,7 +22,7 @@ module _ (class : Token → Class) where
       reach = λ front rest l b. absurd (omega arith);
       closed = λ front back b. nil_front front back b;
     }
-    nested_none (suc n) = let r = step 0 never (nested body n) (deeper body_run 0) (nested_none n) in record {
+    nested_none (suc n) = let r = step 0 never (nested_part body n) (nested_reader body_run 0) (nested_none n) in record {
       sound = λ ts rest a e. cc;
       stuck = λ ts rest e. ([], cc, refl);
       none = r.none;
@@ -34,9 +34,9 @@ module _ (class : Token → Class) where
       closed = r.closed;
     }
 
-    reads_nested : (m n : ℕ) → Reads class m (nested body m) (nested body n) (deeper body_run m) f false goes
+    reads_nested : (m n : ℕ) → Reads class m (nested_part body m) (nested_part body n) (nested_reader body_run m) f false goes
     reads_nested zero n = nested_none n
-    reads_nested (suc m) zero = let r = step m (nested body m) never (deeper body_run m) (reads_nested m zero) in record {
+    reads_nested (suc m) zero = let r = step m (nested_part body m) never (nested_reader body_run m) (reads_nested m zero) in record {
       sound = r.sound;
       stuck = r.stuck;
       none = refl;
@@ -44,12 +44,12 @@ module _ (class : Token → Class) where
       heads = λ a front s. absurd s;
       starts = λ front b. subst (λ w. Heads class f true w) (sym b) refl;
       complete = λ a front rest l s k. absurd s;
-      reach = λ front rest l b. subst (λ w. left (deeper body_run (suc m) (w ++ rest)) ≤ length rest) (sym b) (shorter class (suc m) (body (nested body m)) (body never) (body_run m (deeper body_run m)) f false goes r rest);
+      reach = λ front rest l b. subst (λ w. left (nested_reader body_run (suc m) (w ++ rest)) ≤ length rest) (sym b) (shorter class (suc m) (body (nested_part body m)) (body never) (body_run m (nested_reader body_run m)) f false goes r rest);
       closed = λ front back b. nil_front front back b;
     }
-    reads_nested (suc m) (suc n) = step m (nested body m) (nested body n) (deeper body_run m) (reads_nested m n)
+    reads_nested (suc m) (suc n) = step m (nested_part body m) (nested_part body n) (nested_reader body_run m) (reads_nested m n)
 
-    pub reads_deep : (m : ℕ) → Reads class m (deep body) (deep body) (deeper body_run m) f false goes
+    pub reads_deep : (m : ℕ) → Reads class m (deep_part body) (deep_part body) (nested_reader body_run m) f false goes
     reads_deep m = record {
       sound = λ ts rest a e. let s = (reads_nested m 0).sound ts rest a e in (s.0, s.1, (m, s.2));
       stuck = λ ts rest e. let s = (reads_nested m 0).stuck ts rest e in (s.0, s.1, (m, s.2));

@@ -2,20 +2,20 @@
 use Rattle.std.proofs.Common.{◌≡◌, ℕ, ◌≤◌, inl, inr, List, [], ◌∷◌, ◌++◌, length, Option, Some, None, IsSome, Ok, Err, true, false, refl, sym, ◌∙◌, ap, subst, arith, ⊎_elim}
 use Rattle.mace_lexer.specs.declared.token.Token.{Token}
 use Rattle.mace_grammar.specs.declared.class.Class.{Class}
-use Rattle.mace_grammar.specs.inner.Run.{taken, word, has}
+use Rattle.mace_grammar.specs.inner.Run.{outcome_of, word, has}
 use Rattle.mace_grammar.specs.Part.{one}
 use Rattle.mace_grammar.proofs.Outcomes.{left, ok_parts, nil_front}
 use Rattle.mace_grammar.proofs.Reading.{Reads, Heads}
 
-taken_ok : {A : Type 0} (all rest : List Token) (o : Option A) (a : A) (r : List Token) → taken all rest o ≡ Ok (a, r) → (o ≡ Some a) × (rest ≡ r)
+taken_ok : {A : Type 0} (all rest : List Token) (o : Option A) (a : A) (r : List Token) → outcome_of all rest o ≡ Ok (a, r) → (o ≡ Some a) × (rest ≡ r)
 taken_ok all rest (Some b) a r e = let h = ok_parts b a rest r e in (ap Some h.0, h.1)
 taken_ok all rest None a r e = cc
 
-taken_err : {A : Type 0} (all rest : List Token) (o : Option A) (r : List Token) → taken all rest o ≡ Err r → all ≡ r
+taken_err : {A : Type 0} (all rest : List Token) (o : Option A) (r : List Token) → outcome_of all rest o ≡ Err r → all ≡ r
 taken_err all rest (Some b) r e = cc
 taken_err all rest None r e = cc
 
-taken_left : {A : Type 0} (all rest : List Token) (o : Option A) → IsSome o → left (taken all rest o) ≤ length rest
+taken_left : {A : Type 0} (all rest : List Token) (o : Option A) → IsSome o → left (outcome_of all rest o) ≤ length rest
 taken_left all rest (Some b) s = omega arith
 taken_left all rest None s = cc
 
@@ -58,7 +58,7 @@ module _ (class : Token → Class) where
         at_start [] = omega arith
         at_start (t ∷ ts) = any (f t)
           where
-            any : (o : Option A) → left (taken (t ∷ ts) ts o) ≤ length (t ∷ ts)
+            any : (o : Option A) → left (outcome_of (t ∷ ts) ts o) ≤ length (t ∷ ts)
             any (Some b) = omega arith
             any None = omega arith
 
@@ -70,7 +70,7 @@ module _ (class : Token → Class) where
       begun = λ a front s. inr (s.0, s.1, is_some_of (f s.0) a s.2);
       heads = λ a front s. subst (λ w. Heads class cs false w) (sym s.1) (word_class s.0 (is_some_of (f s.0) a s.2));
       starts = word_starts;
-      complete = λ a front rest l s k. ap (λ w. word f (w ++ rest)) s.1 ∙ ap (λ o. taken (s.0 ∷ rest) rest o) s.2;
+      complete = λ a front rest l s k. ap (λ w. word f (w ++ rest)) s.1 ∙ ap (λ o. outcome_of (s.0 ∷ rest) rest o) s.2;
       reach = λ front rest l b. word_reach front rest b;
       closed = word_closed;
     }

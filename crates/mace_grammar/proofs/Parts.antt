@@ -3,7 +3,7 @@ use Rattle.std.proofs.Common.{◌≡◌, inl, inr, ℕ, zero, suc, List, [], ◌
 use Rattle.std.specs.List.{AllByRecursion}
 use Rattle.mace_lexer.specs.declared.sign.Sign.TheVariants as s
 use Rattle.mace_lexer.specs.declared.token.Token.{Token}
-use Rattle.mace_grammar.specs.Part.{Part, pure, one, ◌>>=◌, ◌or◌, many, SpellsAll, maybe, nested, deep}
+use Rattle.mace_grammar.specs.Part.{Part, pure, one, ◌>>=◌, ◌or◌, many, SpellsAll, maybe, nested_part, deep_part}
 use Rattle.mace_grammar.specs.Grammar as g
 use Rattle.mace_grammar.specs.Words as w
 
@@ -70,12 +70,12 @@ module _ {P : Token → Type 0} where
       go None ts st sp = tt
       go (Some a) ts st sp = F.so a ts st sp
 
-  pub down : {A : Type 0} {S : A → Type 0} {body : Part A → Part A} → ((p : Part A) → Gives P S p → Gives P S (body p)) → Gives P S (deep body)
+  pub down : {A : Type 0} {S : A → Type 0} {body : Part A → Part A} → ((p : Part A) → Gives P S p → Gives P S (body p)) → Gives P S (deep_part body)
   down {A = A} {S = S} {body = body} F = record { so = λ a ts st sp. (go sp.0).so a ts st sp.1 }
     where
-      go : (n : ℕ) → Gives P S (nested body n)
+      go : (n : ℕ) → Gives P S (nested_part body n)
       go zero = record { so = λ a ts st sp. absurd sp }
-      go (suc n) = F (nested body n) (go n)
+      go (suc n) = F (nested_part body n) (go n)
 
   -- ---- lists with commas
 

@@ -4,14 +4,14 @@ use Rattle.std.specs.Prelude.{if◌then◌else◌}
 use Rattle.std.specs.Option.{option_map}
 use Rattle.mace_lexer.specs.declared.token.Token.{Token}
 use Rattle.mace_grammar.specs.declared.class.Class.{Class}
-use Rattle.mace_grammar.specs.inner.Run.{Reader, Outcome, and_then, give, after, taken, word, sees, choice, each, each_of, some, with_front, deeper}
+use Rattle.mace_grammar.specs.inner.Run.{Reader, Outcome, and_then, give, after, outcome_of, word, sees, choice, each, each_of, some, with_front, nested_reader}
 use Rattle.mace_grammar.specs.inner.Classes as classes
 use Rattle.mace_grammar.specs.Words.{Edition}
-use Rattle.mace_grammar.specs.Spelled.{plain}
+use Rattle.mace_grammar.specs.Spelled.{plain_token}
 
 -- the same words, standing nowhere
 abbrev pub erased : List Token → List Token
-erased = map (λ t. plain t.word)
+erased = map (λ t. plain_token t.word)
 
 abbrev pub map_outcome : {A B : Type 0} → (A → B) → Outcome A → Outcome B
 map_outcome h (Ok p) = Ok (h p.0, erased p.1)
@@ -31,16 +31,16 @@ natural_then {A = A} {C = C} {h = h} {g = g} {run = run} {next = next} next' P Q
     go (Ok p) = (Q p.0).same p.1
     go (Err rest) = refl
 
-pub natural_word : {A B : Type 0} (h : A → B) (f : Token → Option A) (f' : Token → Option B) → ((t : Token) → f' (plain t.word) ≡ option_map h (f t)) → Natural h (word f) (word f')
+pub natural_word : {A B : Type 0} (h : A → B) (f : Token → Option A) (f' : Token → Option B) → ((t : Token) → f' (plain_token t.word) ≡ option_map h (f t)) → Natural h (word f) (word f')
 natural_word {A = A} h f f' e = record { same = go }
   where
-    seen : (all rest : List Token) (o : Option A) → taken (erased all) (erased rest) (option_map h o) ≡ map_outcome h (taken all rest o)
+    seen : (all rest : List Token) (o : Option A) → outcome_of (erased all) (erased rest) (option_map h o) ≡ map_outcome h (outcome_of all rest o)
     seen all rest (Some a) = refl
     seen all rest None = refl
 
     go : (ts : List Token) → word f' (erased ts) ≡ map_outcome h (word f ts)
     go [] = refl
-    go (t ∷ ts) = ap (taken (erased (t ∷ ts)) (erased ts)) (e t) ∙ seen (t ∷ ts) ts (f t)
+    go (t ∷ ts) = ap (outcome_of (erased (t ∷ ts)) (erased ts)) (e t) ∙ seen (t ∷ ts) ts (f t)
 
 pub same_length : (ts : List Token) → length (erased ts) ≡ length ts
 same_length [] = refl
@@ -94,6 +94,6 @@ module _ (edition : Edition) where
   pub natural_maybe : {A B : Type 0} {h : A → B} {run : Reader A} {run' : Reader B} (set : List Class) → Natural h run run' → Natural (option_map h) (choice kind set (some run) (give None)) (choice kind set (some run') (give None))
   natural_maybe {h = h} set P = natural_choice set (natural_some P) (natural_give (option_map h) None None refl)
 
-pub natural_deeper : {A : Type 0} (h : A → A) (body : ℕ → Reader A → Reader A) → ((n : ℕ) (run : Reader A) → Natural h run run → Natural h (body n run) (body n run)) → (n : ℕ) → Natural h (deeper body n) (deeper body n)
+pub natural_deeper : {A : Type 0} (h : A → A) (body : ℕ → Reader A → Reader A) → ((n : ℕ) (run : Reader A) → Natural h run run → Natural h (body n run) (body n run)) → (n : ℕ) → Natural h (nested_reader body n) (nested_reader body n)
 natural_deeper h body step zero = record { same = λ ts. refl }
-natural_deeper h body step (suc n) = record { same = λ ts. (step n (deeper body n) (natural_deeper h body step n)).same ts }
+natural_deeper h body step (suc n) = record { same = λ ts. (step n (nested_reader body n) (natural_deeper h body step n)).same ts }

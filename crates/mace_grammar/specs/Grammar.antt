@@ -2,8 +2,8 @@
 pub mod Lists
 pub mod Exprs
 pub mod Stmts
-unfoldable pub use Rattle.mace_grammar.specs.Grammar.Lists.{listed, in_parens}
-unfoldable pub use Rattle.mace_grammar.specs.Grammar.Exprs.{joined, compared, operand, chain, field, product, sum, comparison, conjunction, expr, arguments, bracketed, parenthesized, read, above, call, index, above_index, child_call, primary, signed, signed_or_primary, unary, any_expr, any_arguments, any_key}
+unfoldable pub use Rattle.mace_grammar.specs.Grammar.Lists.{comma_list, in_parens}
+unfoldable pub use Rattle.mace_grammar.specs.Grammar.Exprs.{binary_of, comparison_of, operand, chain, field, product, sum, comparison, conjunction, expr, arguments, bracketed, parenthesized, read, above, call, index, above_index, child_call, primary, signed, signed_or_primary, unary, any_expr, any_arguments, any_key}
 unfoldable pub use Rattle.mace_grammar.specs.Grammar.Stmts.{target, let_stmt, require_stmt, send_stmt, spawn_stmt, drop_stmt, set_stmt, call_stmt, child_call_stmt, return_stmt, finish_stmt, block, if_stmt, while_stmt, for_stmt, any_stmt, stmt, stmts, any_block}
 use Rattle.std.specs.Prelude.{List, Option}
 use Rattle.wave_base.specs.declared.span.Span.{Span}
@@ -17,7 +17,7 @@ use Rattle.mace_ast.specs.declared.field.Initial.{Initial}
 use Rattle.mace_ast.specs.declared.field.Literal.TheVariants as lit
 use Rattle.mace_ast.specs.declared.method.Param.{Param}
 use Rattle.mace_ast.specs.Decls.{LastTree, MethodTree, PhaseTree, EventTree, ContextTree, Context, contexts_of, ServiceTree}
-use Rattle.mace_grammar.specs.Part.{Part, pure, one, ◌>>=◌, ◌>>◌, ◌or◌, many, maybe, deep}
+use Rattle.mace_grammar.specs.Part.{Part, pure, one, ◌>>=◌, ◌>>◌, ◌or◌, many, maybe, deep_part}
 use Rattle.mace_grammar.specs.Words.{Edition, first, edition_of, version_number, key, sign, name, end, number, type, initial_word}
 
 -- Initial = Number | "-" Number | Text | "true" | "false" | "empty"
@@ -124,7 +124,7 @@ module _ (edition : Edition) where
     pure (Context at n vars (contexts_of contexts) methods)
 
   abbrev pub context : Part ContextTree
-  context = deep one_context
+  context = deep_part one_context
 
 -- "{" Var* Context* Method* Event* "}", in this version
 unfoldable pub members : Version → Span → Name → Part ServiceTree

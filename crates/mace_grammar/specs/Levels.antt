@@ -12,9 +12,9 @@ looser_ones Sum = 3
 looser_ones Product = 4
 
 -- how many are looser than what is wanted of an operand: one of this level at the loosest, or one with no operator outside of parentheses
-abbrev pub wanted : Option Level → ℕ
-wanted (Some level) = looser_ones level
-wanted None = 5
+abbrev pub wanted_looser : Option Level → ℕ
+wanted_looser (Some level) = looser_ones level
+wanted_looser None = 5
 
 -- how many levels are tighter
 abbrev pub tighter_ones : Level → ℕ

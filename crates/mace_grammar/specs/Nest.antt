@@ -15,48 +15,48 @@ abbrev pub no_pieces : Pieces
 no_pieces = record { current = 0; under = [] }
 
 -- a bracket opens: a piece with no operators
-abbrev pub opened : Pieces → Pieces
-opened p = record { current = 0; under = p.current ∷ p.under }
+abbrev pub after_open : Pieces → Pieces
+after_open p = record { current = 0; under = p.current ∷ p.under }
 
 -- a bracket closes: the piece under it is the current one
-abbrev pub closed : List ℕ → Pieces
-closed [] = no_pieces
-closed (n ∷ under) = record { current = n; under = under }
+abbrev pub after_close : List ℕ → Pieces
+after_close [] = no_pieces
+after_close (n ∷ under) = record { current = n; under = under }
 
 -- the current piece begins anew
-abbrev pub cleared : Pieces → Pieces
-cleared p = record { current = 0; under = p.under }
+abbrev pub after_separator : Pieces → Pieces
+after_separator p = record { current = 0; under = p.under }
 
 -- one operator more
-abbrev pub counted : Pieces → Pieces
-counted p = record { current = p.current + 1; under = p.under }
+abbrev pub after_operator : Pieces → Pieces
+after_operator p = record { current = p.current + 1; under = p.under }
 
 abbrev pub past_sign : Sign → Pieces → Pieces
-past_sign s.LeftParen p = opened p
-past_sign s.LeftBracket p = opened p
-past_sign s.LeftBrace p = opened (cleared p)
-past_sign s.RightParen p = closed p.under
-past_sign s.RightBracket p = closed p.under
-past_sign s.RightBrace p = cleared (closed p.under)
-past_sign s.Comma p = cleared p
-past_sign s.Semicolon p = cleared p
+past_sign s.LeftParen p = after_open p
+past_sign s.LeftBracket p = after_open p
+past_sign s.LeftBrace p = after_open (after_separator p)
+past_sign s.RightParen p = after_close p.under
+past_sign s.RightBracket p = after_close p.under
+past_sign s.RightBrace p = after_separator (after_close p.under)
+past_sign s.Comma p = after_separator p
+past_sign s.Semicolon p = after_separator p
 past_sign s.Colon p = p
 past_sign s.Dot p = p
 past_sign s.Equals p = p
-past_sign s.EqualsEquals p = counted p
-past_sign s.BangEquals p = counted p
-past_sign s.Less p = counted p
-past_sign s.LessEquals p = counted p
-past_sign s.Greater p = counted p
-past_sign s.GreaterEquals p = counted p
-past_sign s.Plus p = counted p
-past_sign s.Minus p = counted p
-past_sign s.Star p = counted p
-past_sign s.Slash p = counted p
-past_sign s.Percent p = counted p
-past_sign s.AndAnd p = counted p
-past_sign s.OrOr p = counted p
-past_sign s.Bang p = counted p
+past_sign s.EqualsEquals p = after_operator p
+past_sign s.BangEquals p = after_operator p
+past_sign s.Less p = after_operator p
+past_sign s.LessEquals p = after_operator p
+past_sign s.Greater p = after_operator p
+past_sign s.GreaterEquals p = after_operator p
+past_sign s.Plus p = after_operator p
+past_sign s.Minus p = after_operator p
+past_sign s.Star p = after_operator p
+past_sign s.Slash p = after_operator p
+past_sign s.Percent p = after_operator p
+past_sign s.AndAnd p = after_operator p
+past_sign s.OrOr p = after_operator p
+past_sign s.Bang p = after_operator p
 
 abbrev pub past_word : Pieces → Word → Pieces
 past_word p (word.Sign j) = past_sign j p

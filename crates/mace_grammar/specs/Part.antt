@@ -58,10 +58,10 @@ abbrev pub maybe : {A : Type 0} → Part A → Part (Option A)
 maybe {A} p = record { Spells = SpellsMaybe p; Begins = p.Begins }
 
 -- a part that leads back to itself, at most this deep
-abbrev pub nested : {A : Type 0} → (Part A → Part A) → ℕ → Part A
-nested body zero = never
-nested body (suc n) = body (nested body n)
+abbrev pub nested_part : {A : Type 0} → (Part A → Part A) → ℕ → Part A
+nested_part body zero = never
+nested_part body (suc n) = body (nested_part body n)
 
 -- the same, however deep
-abbrev pub deep : {A : Type 0} → (Part A → Part A) → Part A
-deep body = record { Spells = λ a ts. (n : ℕ) × (nested body n).Spells a ts; Begins = λ ts. (n : ℕ) × (nested body n).Begins ts }
+abbrev pub deep_part : {A : Type 0} → (Part A → Part A) → Part A
+deep_part body = record { Spells = λ a ts. (n : ℕ) × (nested_part body n).Spells a ts; Begins = λ ts. (n : ℕ) × (nested_part body n).Begins ts }

@@ -15,16 +15,16 @@ abbrev pub words : List Token → List Word
 words = map (λ t. t.word)
 
 -- a token of this word that stands nowhere
-abbrev pub plain : Word → Token
-plain w = record { word = w; span = nowhere; from = 0; to = 0 }
+abbrev pub plain_token : Word → Token
+plain_token w = record { word = w; span = nowhere; from = 0; to = 0 }
 
 -- the words spell the service, up to places
 abbrev pub Spelled : ServiceTree → List Word → Type 0
-Spelled s ws = service.Spells (bare_service s) (map plain ws)
+Spelled s ws = service.Spells (bare_service s) (map plain_token ws)
 
 -- the words begin a service
 abbrev pub Begun : List Word → Type 0
-Begun ws = service.Begins (map plain ws)
+Begun ws = service.Begins (map plain_token ws)
 
 -- The first k words begin a service. With the word behind them they don't; and where there is none, they are no service.
 -- None of them is nested too deep.

@@ -1,7 +1,7 @@
 -- Parts that lead on: tokens that are alike are spelled alike, and what begins a part is the front of what another spells, or nothing.
 use Rattle.std.proofs.Common.{◌≡◌, ℕ, zero, suc, ◌⊎◌, inl, inr, ⊎_elim, List, [], ◌∷◌, ◌++◌, Option, Some, None, IsSome, refl, sym, ◌∙◌, ap, subst, append_assoc, append-nil}
 use Rattle.mace_lexer.specs.declared.token.Token.{Token}
-use Rattle.mace_grammar.specs.Part.{Part, never, pure, one, ◌>>=◌, ◌or◌, SpellsAll, many, SpellsMaybe, maybe, nested, deep}
+use Rattle.mace_grammar.specs.Part.{Part, never, pure, one, ◌>>=◌, ◌or◌, SpellsAll, many, SpellsMaybe, maybe, nested_part, deep_part}
 use Rattle.mace_hints.specs.Hints.{hint_of}
 
 -- ---- tokens that hints don't tell apart
@@ -227,17 +227,17 @@ live_many {p = p} {p' = p'} P = live_many' p p' P
 -- ---- what leads back to itself
 
 module _ {A : Type 0} (body : Part A → Part A) (step : (p q : Part A) → Leads p q → HasSome q → Leads (body p) (body q)) (some : (p : Part A) → HasSome (body p)) where
-  one_deeper : (n : ℕ) → Leads (nested body n) (nested body (suc n))
+  one_deeper : (n : ℕ) → Leads (nested_part body n) (nested_part body (suc n))
   one_deeper zero = record {
     spells = λ a ts us s h. absurd s;
     begins = λ ts us b h. inl (alike_nil us (subst (λ l. Alike l us) b h));
   }
-  one_deeper (suc n) = step (nested body n) (nested body (suc n)) (one_deeper n) (some (nested body n))
+  one_deeper (suc n) = step (nested_part body n) (nested_part body (suc n)) (one_deeper n) (some (nested_part body n))
 
-  deep_begins : (n : ℕ) (us : List Token) → (us ≡ []) ⊎ Completes (nested body n) us → (us ≡ []) ⊎ Completes (deep body) us
+  deep_begins : (n : ℕ) (us : List Token) → (us ≡ []) ⊎ Completes (nested_part body n) us → (us ≡ []) ⊎ Completes (deep_part body) us
   deep_begins n us c = ⊎_elim (λ e. inl e) (λ s. let (more, a, x) = s in inr (more, a, (n, x))) c
 
-  pub live_deep : Live (deep body) (deep body)
+  pub live_deep : Live (deep_part body) (deep_part body)
   live_deep = record {
     leads = record {
       spells = λ a ts us s h. let (n, x) = s in let (b, y) = (one_deeper n).spells a ts us x h in (b, (suc n, y));

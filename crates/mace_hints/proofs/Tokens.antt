@@ -20,7 +20,7 @@ use Rattle.mace_ast.specs.Exprs.{nowhere}
 use Rattle.mace_grammar.specs.Part.{one, SpellsMaybe}
 use Rattle.mace_grammar.specs.Words as w
 use Rattle.mace_grammar.specs.Words.{edition_of}
-use Rattle.mace_grammar.specs.Spelled.{plain}
+use Rattle.mace_grammar.specs.Spelled.{plain_token}
 use Rattle.mace_hints.specs.declared.hint.Hint.{Hint}
 use Rattle.mace_hints.specs.declared.hint.Hint.TheVariants as h
 use Rattle.mace_hints.specs.Hints.{hint_of}
@@ -56,7 +56,7 @@ module _ {A : Type 0} (f : Span → Word → Option A) (g : Hint → Bool) (same
   leads_word = leads_one (λ t. f t.span t.word) (λ t. f t.span t.word) (λ t u e x. keeps t.span u.span t.word u.word e x)
 
   pub live_word : (v : Word) → is_some (f nowhere v) ≡ true → Live (one (λ t. f t.span t.word)) (one (λ t. f t.span t.word))
-  live_word v e = record { leads = leads_word; some = some_one (λ t. f t.span t.word) (plain v) (some_of (f nowhere v) e) }
+  live_word v e = record { leads = leads_word; some = some_one (λ t. f t.span t.word) (plain_token v) (some_of (f nowhere v) e) }
 
 -- ---- keywords and signs
 

@@ -7,7 +7,7 @@ use Rattle.wave_base.specs.Text.{IsPrintable}
 use Rattle.mace_lexer.specs.declared.quoted.Inside.{Inside}
 use Rattle.mace_lexer.specs.declared.quoted.Inside.TheVariants.{Byte, Close, Open, Bad}
 use Rattle.mace_lexer.specs.Texts.{escape_of, inside_of, is_byte}
-use Rattle.wave_base.specs.Text.{escaped_byte, escaped}
+use Rattle.wave_base.specs.Text.{escaped_byte, escaped_text}
 
 -- ---- what stands first
 
@@ -102,28 +102,28 @@ head_printable b t h = h 0 0 (omega arith)
 tail_printable : (b : ℕ) (t : List ℕ) → All IsPrintable (b ∷ t) → All IsPrintable t
 tail_printable b t h = λ k d l. h (suc k) d (omega arith)
 
-byte_in : (b : ℕ) (t r : List ℕ) → All IsPrintable (b ∷ t) → inside_of (escaped (b ∷ t) ++ r) ≡ Byte b
-byte_in b t r h = ap inside_of (append_assoc (escaped_byte b) (escaped t) r) ∙ byte_next b (escaped t ++ r) (head_printable b t h)
+byte_in : (b : ℕ) (t r : List ℕ) → All IsPrintable (b ∷ t) → inside_of (escaped_text (b ∷ t) ++ r) ≡ Byte b
+byte_in b t r h = ap inside_of (append_assoc (escaped_byte b) (escaped_text t) r) ∙ byte_next b (escaped_text t ++ r) (head_printable b t h)
 
-pub same_body : (t u r s : List ℕ) → All IsPrintable t → All IsPrintable u → is_byte (inside_of r) ≡ false → is_byte (inside_of s) ≡ false → escaped t ++ r ≡ escaped u ++ s → (t ≡ u) × (r ≡ s)
+pub same_body : (t u r s : List ℕ) → All IsPrintable t → All IsPrintable u → is_byte (inside_of r) ≡ false → is_byte (inside_of s) ≡ false → escaped_text t ++ r ≡ escaped_text u ++ s → (t ≡ u) × (r ≡ s)
 same_body [] [] r s h k x y e = (refl, e)
 same_body [] (c ∷ u) r s h k x y e = let w : inside_of r ≡ Byte c = ap inside_of e ∙ byte_in c u s k in let v : is_byte (inside_of r) ≡ true = ap is_byte w in cc
 same_body (b ∷ t) [] r s h k x y e = let w : inside_of s ≡ Byte b = ap inside_of (sym e) ∙ byte_in b t r h in let v : is_byte (inside_of s) ≡ true = ap is_byte w in cc
 same_body (b ∷ t) (c ∷ u) r s h k x y e =
     let w : Byte b ≡ Byte c = sym (byte_in b t r h) ∙ ap inside_of e ∙ byte_in c u s k in
     let same : b ≡ c = cc in
-    let whole : escaped_byte b ++ (escaped t ++ r) ≡ escaped_byte b ++ (escaped u ++ s) = sym (append_assoc (escaped_byte b) (escaped t) r) ∙ e ∙ append_assoc (escaped_byte c) (escaped u) s ∙ ap (λ z. escaped_byte z ++ (escaped u ++ s)) (sym same) in
-    let rest = same_body t u r s (tail_printable b t h) (tail_printable c u k) x y (append_cancel_left (escaped_byte b) (escaped t ++ r) (escaped u ++ s) whole) in
+    let whole : escaped_byte b ++ (escaped_text t ++ r) ≡ escaped_byte b ++ (escaped_text u ++ s) = sym (append_assoc (escaped_byte b) (escaped_text t) r) ∙ e ∙ append_assoc (escaped_byte c) (escaped_text u) s ∙ ap (λ z. escaped_byte z ++ (escaped_text u ++ s)) (sym same) in
+    let rest = same_body t u r s (tail_printable b t h) (tail_printable c u k) x y (append_cancel_left (escaped_byte b) (escaped_text t ++ r) (escaped_text u ++ s) whole) in
     (rw (same, rest.0) refl, rest.1)
 
 -- ---- one byte more
 
-pub escaped-append : (t u : List ℕ) → escaped (t ++ u) ≡ escaped t ++ escaped u
+pub escaped-append : (t u : List ℕ) → escaped_text (t ++ u) ≡ escaped_text t ++ escaped_text u
 escaped-append [] u = refl
-escaped-append (b ∷ t) u = ap (λ w. escaped_byte b ++ w) (escaped-append t u) ∙ sym (append_assoc (escaped_byte b) (escaped t) (escaped u))
+escaped-append (b ∷ t) u = ap (λ w. escaped_byte b ++ w) (escaped-append t u) ∙ sym (append_assoc (escaped_byte b) (escaped_text t) (escaped_text u))
 
-pub escaped_push : (t : List ℕ) (b : ℕ) → escaped (t ++ b ∷ []) ≡ escaped t ++ escaped_byte b
-escaped_push t b = escaped-append t (b ∷ []) ∙ ap (λ w. escaped t ++ w) (append-nil (escaped_byte b))
+pub escaped_push : (t : List ℕ) (b : ℕ) → escaped_text (t ++ b ∷ []) ≡ escaped_text t ++ escaped_byte b
+escaped_push t b = escaped-append t (b ∷ []) ∙ ap (λ w. escaped_text t ++ w) (append-nil (escaped_byte b))
 
 pub no_byte : (i : Inside) → ((b : ℕ) → i ≡ Byte b → ⊥) → is_byte i ≡ false
 no_byte (Byte b) h = absurd (h b refl)

@@ -18,7 +18,7 @@ use Rattle.mace_lexer.specs.declared.fault.LexError.{LexError}
 use Rattle.mace_lexer.specs.declared.fault.LexError.TheVariants as error
 use Rattle.mace_lexer.specs.Words.{value_of, greatest, keyword}
 use Rattle.mace_lexer.specs.Texts.{inside_of, is_byte}
-use Rattle.wave_base.specs.Text.{escaped, quoted}
+use Rattle.wave_base.specs.Text.{escaped_text, quoted_text}
 use Rattle.mace_lexer.specs.Pieces.{Piece, Gap, Spell, Wrong, IsPiece, IsLongest, HasNone}
 use Rattle.mace_lexer.specs.Cuts.{Cuts, at_end, gap, spelled, Faulty, here, after_gap, after_word, past, Fails, StopsInside, HasNoPiece}
 use Rattle.mace_lexer.specs.Lexed.{AreTokens, LiesIn, AreInOrder, IsFirstFault, TellsFault, Answers, error_of}
@@ -30,8 +30,8 @@ use Rattle.wave_base.specs.Memory.{the_refusal}
 
 -- ---- bytes are one piece
 
-same_text : (t u : List ℕ) → All IsPrintable t → All IsPrintable u → quoted t ≡ quoted u → t ≡ u
-same_text t u h k e = (same_body t u (34 ∷ []) (34 ∷ []) h k refl refl (append_cancel_left (34 ∷ []) (escaped t ++ 34 ∷ []) (escaped u ++ 34 ∷ []) e)).0
+same_text : (t u : List ℕ) → All IsPrintable t → All IsPrintable u → quoted_text t ≡ quoted_text u → t ≡ u
+same_text t u h k e = (same_body t u (34 ∷ []) (34 ∷ []) h k refl refl (append_cancel_left (34 ∷ []) (escaped_text t ++ 34 ∷ []) (escaped_text u ++ 34 ∷ []) e)).0
 
 short_keyword : (bs : List ℕ) (k : Keyword) → keyword bs ≡ Some k → 64 < length bs → ⊥
 short_keyword bs k h l = let t : nat_le (length bs) 64 ≡ true = keyword_passes (λ w. nat_le (length w) 64) bs k refl h in absurd (grind (arith, nat_tests))
@@ -107,9 +107,9 @@ quote_at text n next h = ap (λ w. get_or w 0 0) h.split
 
 same_stop : (text : List ℕ) (n m : ℕ) (i j : Inside) → is_byte i ≡ false → is_byte j ≡ false → StopsInside text n i → StopsInside text m j → (n ≡ m) × (i ≡ j)
 same_stop text n m i j x y h k =
-    let inner : escaped h.meant ++ h.rest ≡ escaped k.meant ++ k.rest = append_cancel_left (34 ∷ []) (escaped h.meant ++ h.rest) (escaped k.meant ++ k.rest) (sym h.split ∙ k.split) in
+    let inner : escaped_text h.meant ++ h.rest ≡ escaped_text k.meant ++ k.rest = append_cancel_left (34 ∷ []) (escaped_text h.meant ++ h.rest) (escaped_text k.meant ++ k.rest) (sym h.split ∙ k.split) in
     let s = same_body h.meant k.meant h.rest k.rest h.printable k.printable (ap is_byte h.stop ∙ x) (ap is_byte k.stop ∙ y) inner in
-    (h.reach ∙ ap (λ w. suc (length (escaped w))) s.0 ∙ sym k.reach, sym h.stop ∙ ap inside_of s.1 ∙ k.stop)
+    (h.reach ∙ ap (λ w. suc (length (escaped_text w))) s.0 ∙ sym k.reach, sym h.stop ∙ ap inside_of s.1 ∙ k.stop)
 
 one_cause : (text : List ℕ) (e f : LexFault) (n m : ℕ) → Cause text e n → Cause text f m → (e ≡ f) × (n ≡ m)
 one_cause text e f n m (large a s h) (large b t k) = let w : Wrong e ≡ Wrong f = (one_longest text s t (Wrong e) (Wrong f) h k).1 in (cc, a ∙ sym b)
@@ -177,8 +177,8 @@ fails_some n e h = go (cause_of [] e n h)
   where
     go : Cause [] e n → ⊥
     go (large a s k) = longest_some s (Wrong e) k
-    go (open_ended x a o k) = let w : [] ≡ 34 ∷ (escaped k.meant ++ k.rest) = k.split in cc
-    go (bad x k) = let w : [] ≡ 34 ∷ (escaped k.meant ++ k.rest) = k.split in cc
+    go (open_ended x a o k) = let w : [] ≡ 34 ∷ (escaped_text k.meant ++ k.rest) = k.split in cc
+    go (bad x k) = let w : [] ≡ 34 ∷ (escaped_text k.meant ++ k.rest) = k.split in cc
     go (none x k) = absurd (omega (arith, k.some))
 
 pub no_fault : {at place : Span} {from : ℕ} {text : List ℕ} {a : List Token} {e : LexFault} → Cuts at from text a → Faulty at text e place → ⊥

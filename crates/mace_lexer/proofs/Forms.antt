@@ -17,7 +17,7 @@ use Rattle.mace_lexer.specs.declared.fault.LexFault.TheVariants.{BadByte, Number
 use Rattle.mace_lexer.specs.Spellings.{keywords, signs}
 use Rattle.mace_lexer.specs.Words.{is_blank, is_inside_line, is_comment, entry_of, keyword, sign}
 use Rattle.mace_lexer.specs.inner.Fronts.{form_by, form_of}
-use Rattle.wave_base.specs.Text.{quoted}
+use Rattle.wave_base.specs.Text.{quoted_text}
 use Rattle.mace_lexer.specs.Pieces.{Piece, Gap, Spell, Wrong, IsPiece}
 
 -- ---- tests
@@ -65,7 +65,7 @@ abbrev pub FormAt : Form → List ℕ → Type 0
 FormAt form.Blank bs = length bs ≡ 1
 FormAt form.LineEnd bs = length bs ≡ 2
 FormAt form.Comment bs = is_comment bs ≡ true
-FormAt form.Text bs = (t : List ℕ) × (bs ≡ quoted t) × All IsPrintable t
+FormAt form.Text bs = (t : List ℕ) × (bs ≡ quoted_text t) × All IsPrintable t
 FormAt form.Name bs = is_word bs ≡ true
 FormAt form.Number bs = is_digits bs ≡ true
 FormAt form.Sign bs = (s : Sign) × (sign bs ≡ Some s)
@@ -121,10 +121,10 @@ number_is (a ∷ bs) h = digit_form a (get_or bs 0 0) (and_cases (is_ascii_digit
 number_form : (bs : List ℕ) → is_digits bs ≡ true → FormAt (form_of bs) bs
 number_form bs h = subst (λ f. FormAt f bs) (sym (number_is bs h)) h
 
-text_is : (bs t : List ℕ) → bs ≡ quoted t → form_of bs ≡ form.Text
+text_is : (bs t : List ℕ) → bs ≡ quoted_text t → form_of bs ≡ form.Text
 text_is bs t h = rw h refl
 
-text_form : (bs t : List ℕ) → bs ≡ quoted t → All IsPrintable t → FormAt (form_of bs) bs
+text_form : (bs t : List ℕ) → bs ≡ quoted_text t → All IsPrintable t → FormAt (form_of bs) bs
 text_form bs t h k = subst (λ f. FormAt f bs) (sym (text_is bs t h)) (t, h, k)
 
 abbrev is_sign_form : Form → Bool

@@ -17,7 +17,7 @@ use Rattle.mace_lexer.specs.declared.token.Word.TheVariants as word
 use Rattle.mace_lexer.specs.declared.fault.LexFault.TheVariants.{BadByte, NumberRange, NameLong, TextLong}
 use Rattle.mace_lexer.specs.Words.{is_inside_line, value_of, greatest, keyword, sign}
 use Rattle.mace_lexer.specs.Texts.{inside_of}
-use Rattle.wave_base.specs.Text.{escaped_byte, escaped, quoted}
+use Rattle.wave_base.specs.Text.{escaped_byte, escaped_text, quoted_text}
 use Rattle.mace_lexer.specs.Pieces.{Piece, Spell, Wrong, IsPiece, IsLongest}
 use Rattle.mace_lexer.specs.inner.Fronts.{form_of, IsCut, IsBody}
 use Rattle.mace_lexer.proofs.Bodies.{byte_taken, escaped_push}
@@ -76,7 +76,7 @@ module _ (text : List ℕ) (n : ℕ) where
 
   module _ (t : List ℕ) (b : IsBody text t n) where
     pub closed_text : (u : List ℕ) → u ≡ t → inside_of (drop n text) ≡ Close → length t ≤ 200 → IsCut text (cut.Spell (n + 1) (word.Text u))
-    closed_text u x c l = (omega arith, text_cut text t n (Spell (word.Text u)) b c (ap quoted (sym x), subst (λ w. All IsPrintable w) (sym x) b.printable, subst (λ w. length w ≤ 200) (sym x) l))
+    closed_text u x c l = (omega arith, text_cut text t n (Spell (word.Text u)) b c (ap quoted_text (sym x), subst (λ w. All IsPrintable w) (sym x) b.printable, subst (λ w. length w ≤ 200) (sym x) l))
 
     pub long_text : inside_of (drop n text) ≡ Close → 200 < length t → IsCut text (cut.Fault TextLong 0)
     long_text c l = (omega arith, record { start = refl; size = n + 1; longest = text_cut text t n (Wrong TextLong) b c (t, refl, b.printable, l) })
@@ -84,9 +84,9 @@ module _ (text : List ℕ) (n : ℕ) where
 -- so much of a text's inside was read
 abbrev pub Inner : List ℕ → List ℕ → ℕ → Type 0
 Inner text t n = record {
-  split : text ≡ 34 ∷ (escaped t ++ drop n text);
+  split : text ≡ 34 ∷ (escaped_text t ++ drop n text);
   printable : All IsPrintable t;
-  reach : n ≡ suc (length (escaped t));
+  reach : n ≡ suc (length (escaped_text t));
   within : n ≤ length text;
 }
 
@@ -101,11 +101,11 @@ pub inner_more : (text t u : List ℕ) (n b k : ℕ) → Inner text t n → insi
 inner_more text t u n b k i h e p =
     let x = byte_taken (drop n text) b h in
     let left : drop (n + k) text ≡ x.left = sym (drop-drop k n text) ∙ ap (drop k) x.split ∙ drop_at (escaped_byte b) x.left k (sym e) in
-    let body : escaped u ≡ escaped t ++ escaped_byte b = ap escaped p ∙ escaped_push t b in
+    let body : escaped_text u ≡ escaped_text t ++ escaped_byte b = ap escaped_text p ∙ escaped_push t b in
     record {
-      split = i.split ∙ ap (λ w. 34 ∷ (escaped t ++ w)) (x.split ∙ ap (λ w. escaped_byte b ++ w) (sym left)) ∙ ap (λ w. 34 ∷ w) (sym (append_assoc (escaped t) (escaped_byte b) (drop (n + k) text)) ∙ ap (λ w. w ++ drop (n + k) text) (sym body));
+      split = i.split ∙ ap (λ w. 34 ∷ (escaped_text t ++ w)) (x.split ∙ ap (λ w. escaped_byte b ++ w) (sym left)) ∙ ap (λ w. 34 ∷ w) (sym (append_assoc (escaped_text t) (escaped_byte b) (drop (n + k) text)) ∙ ap (λ w. w ++ drop (n + k) text) (sym body));
       printable = subst (λ w. All IsPrintable w) (sym p) (All-push IsPrintable t b i.printable x.printable);
-      reach = omega (arith, i.reach, ap length body, length-append (escaped t) (escaped_byte b));
+      reach = omega (arith, i.reach, ap length body, length-append (escaped_text t) (escaped_byte b));
       within = omega (arith, i.within, ap length x.split, length-append (escaped_byte b) x.left, length-drop n text);
     }
 

@@ -16,7 +16,7 @@ use Rattle.mace_lexer.specs.declared.sign.Sign.{Sign}
 use Rattle.mace_lexer.specs.declared.token.Word.TheVariants as word
 use Rattle.mace_lexer.specs.Words.{is_blank, is_inside_line, is_comment, sign}
 use Rattle.mace_lexer.specs.Texts.{inside_of, is_byte}
-use Rattle.wave_base.specs.Text.{escaped, quoted}
+use Rattle.wave_base.specs.Text.{escaped_text, quoted_text}
 use Rattle.mace_lexer.specs.Pieces.{Piece, Gap, Spell, IsPiece, IsLongest, HasNone}
 use Rattle.mace_lexer.specs.inner.Fronts.{form_by, form_of, IsBody}
 use Rattle.mace_lexer.proofs.Forms.{and_cases, FormAt, formed, sign_passes}
@@ -227,17 +227,17 @@ comment_some text h = omega (arith, two_in_line text (slashes text h))
 -- ---- texts
 
 -- a piece behind whose quote these bytes are meant is the text of these bytes
-text_front : (text t rest : List ℕ) (m : ℕ) → text ≡ 34 ∷ (escaped t ++ rest) → All IsPrintable t → is_byte (inside_of rest) ≡ false → FormAt form.Text (take m text) → (left : List ℕ) × (rest ≡ 34 ∷ left) × (take m text ≡ quoted t)
+text_front : (text t rest : List ℕ) (m : ℕ) → text ≡ 34 ∷ (escaped_text t ++ rest) → All IsPrintable t → is_byte (inside_of rest) ≡ false → FormAt form.Text (take m text) → (left : List ℕ) × (rest ≡ 34 ∷ left) × (take m text ≡ quoted_text t)
 text_front text t rest m h k x (u, e, v) =
-    let whole : quoted u ++ drop m text ≡ 34 ∷ (escaped t ++ rest) = ap (λ w. w ++ drop m text) (sym e) ∙ take-append-drop m text ∙ h in
-    let inner : escaped u ++ 34 ∷ drop m text ≡ escaped t ++ rest = sym (append_assoc (escaped u) (34 ∷ []) (drop m text)) ∙ append_cancel_left (34 ∷ []) ((escaped u ++ 34 ∷ []) ++ drop m text) (escaped t ++ rest) whole in
+    let whole : quoted_text u ++ drop m text ≡ 34 ∷ (escaped_text t ++ rest) = ap (λ w. w ++ drop m text) (sym e) ∙ take-append-drop m text ∙ h in
+    let inner : escaped_text u ++ 34 ∷ drop m text ≡ escaped_text t ++ rest = sym (append_assoc (escaped_text u) (34 ∷ []) (drop m text)) ∙ append_cancel_left (34 ∷ []) ((escaped_text u ++ 34 ∷ []) ++ drop m text) (escaped_text t ++ rest) whole in
     let same = same_body u t (34 ∷ drop m text) rest v k refl x inner in
-    (drop m text, sym same.1, e ∙ ap quoted same.0)
+    (drop m text, sym same.1, e ∙ ap quoted_text same.0)
 
 pub text_form_of : (text inner : List ℕ) → text ≡ 34 ∷ inner → form_of text ≡ form.Text
 text_form_of text inner h = rw h refl
 
-pub no_text : (text t rest : List ℕ) → text ≡ 34 ∷ (escaped t ++ rest) → All IsPrintable t → is_byte (inside_of rest) ≡ false → (inside_of rest ≡ Close → ⊥) → HasNone text
+pub no_text : (text t rest : List ℕ) → text ≡ 34 ∷ (escaped_text t ++ rest) → All IsPrintable t → is_byte (inside_of rest) ≡ false → (inside_of rest ≡ Close → ⊥) → HasNone text
 no_text text t rest h k x y = λ m q l s.
     let e : FormAt form.Text (take m text) = subst (λ g. FormAt g (take m text)) (front_text m q s) (formed q (take m text) s) in
     let f = text_front text t rest m h k x e in
@@ -248,13 +248,13 @@ no_text text t rest h k x y = λ m q l s.
     front_text (suc m) q s = rw h refl
 
 -- the closing quote ends the piece
-pub text_cut : (text t : List ℕ) (n : ℕ) (p : Piece) → IsBody text t n → inside_of (drop n text) ≡ Close → IsPiece p (quoted t) → IsLongest text (n + 1) p
+pub text_cut : (text t : List ℕ) (n : ℕ) (p : Piece) → IsBody text t n → inside_of (drop n text) ≡ Close → IsPiece p (quoted_text t) → IsLongest text (n + 1) p
 text_cut text t n p b c piece =
     let close = close_is (drop n text) c in
-    let whole : text ≡ quoted t ++ close.0 = b.split ∙ ap (λ w. 34 ∷ (escaped t ++ w)) close.1 ∙ ap (λ w. 34 ∷ w) (sym (append_assoc (escaped t) (34 ∷ []) close.0)) in
-    let size : length (quoted t) ≡ n + 1 = omega (arith, length-append (escaped t) (34 ∷ []), b.reach) in
-    let front : take (n + 1) text ≡ quoted t = ap (take (n + 1)) whole ∙ take_at (quoted t) close.0 (n + 1) size in
-    longest_by text (n + 1) p form.Text (text_form_of text (escaped t ++ drop n text) b.split) (omega arith) (omega (arith, ap length whole, length-append (quoted t) close.0)) (subst (λ w. IsPiece p w) (sym front) piece)
+    let whole : text ≡ quoted_text t ++ close.0 = b.split ∙ ap (λ w. 34 ∷ (escaped_text t ++ w)) close.1 ∙ ap (λ w. 34 ∷ w) (sym (append_assoc (escaped_text t) (34 ∷ []) close.0)) in
+    let size : length (quoted_text t) ≡ n + 1 = omega (arith, length-append (escaped_text t) (34 ∷ []), b.reach) in
+    let front : take (n + 1) text ≡ quoted_text t = ap (take (n + 1)) whole ∙ take_at (quoted_text t) close.0 (n + 1) size in
+    longest_by text (n + 1) p form.Text (text_form_of text (escaped_text t ++ drop n text) b.split) (omega arith) (omega (arith, ap length whole, length-append (quoted_text t) close.0)) (subst (λ w. IsPiece p w) (sym front) piece)
     (λ m lt le e. let f = text_front text t (drop n text) m b.split b.printable b.ends e in omega (arith, ap length f.2, length-take m text, size))
 
 -- ---- signs

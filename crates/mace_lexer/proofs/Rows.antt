@@ -6,7 +6,7 @@ use Rattle.mace_lexer.specs.declared.sign.Sign.TheVariants as s
 use Rattle.mace_lexer.specs.declared.quoted.Inside.TheVariants.{Byte, Open, Bad}
 use Rattle.mace_lexer.specs.Words.{is_blank, value_of, keyword, sign}
 use Rattle.mace_lexer.specs.Texts.{inside_of}
-use Rattle.wave_base.specs.Text.{quoted}
+use Rattle.wave_base.specs.Text.{quoted_text}
 use Rattle.mace_lexer.specs.Cuts.{past}
 use Rattle.mace_lexer.specs.Lexed.{start}
 
@@ -41,7 +41,7 @@ seven : value_of (48 ∷ 48 ∷ 55 ∷ []) ≡ 7
 seven = refl
 
 -- a"b is written "a\"b"
-quote_inside : quoted (97 ∷ 34 ∷ 98 ∷ []) ≡ 34 ∷ 97 ∷ 92 ∷ 34 ∷ 98 ∷ 34 ∷ []
+quote_inside : quoted_text (97 ∷ 34 ∷ 98 ∷ []) ≡ 34 ∷ 97 ∷ 92 ∷ 34 ∷ 98 ∷ 34 ∷ []
 quote_inside = refl
 
 -- behind a backslash a quote is meant, the line's end leaves the text open, and an n is bad

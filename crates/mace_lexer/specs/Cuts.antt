@@ -8,7 +8,7 @@ use Rattle.mace_lexer.specs.declared.fault.LexFault.TheVariants.{BadByte, Number
 use Rattle.mace_lexer.specs.declared.quoted.Inside.TheVariants.{Open, Bad}
 use Rattle.mace_lexer.specs.declared.quoted.Inside.{Inside}
 use Rattle.mace_lexer.specs.Texts.{inside_of}
-use Rattle.wave_base.specs.Text.{IsPrintable, escaped}
+use Rattle.wave_base.specs.Text.{IsPrintable, escaped_text}
 use Rattle.mace_lexer.specs.Pieces.{Gap, Spell, Wrong, IsLongest, HasNone}
 
 abbrev pub past_byte : Span → ℕ → Span
@@ -37,9 +37,9 @@ pub record IsTooLarge (text : List ℕ) (e : LexFault) (n : ℕ) : Type 0 where
 pub record StopsInside (text : List ℕ) (n : ℕ) (next : Inside) : Type 0 where
   pub meant : List ℕ
   pub rest : List ℕ
-  pub split : text ≡ 34 ∷ (escaped meant ++ rest)
+  pub split : text ≡ 34 ∷ (escaped_text meant ++ rest)
   pub printable : All IsPrintable meant
-  pub reach : n ≡ suc (length (escaped meant))
+  pub reach : n ≡ suc (length (escaped_text meant))
   pub stop : inside_of rest ≡ next
 
 -- the line or the text ends before the closing quote: the fault stands at the opening one

@@ -8,7 +8,7 @@ use Rattle.mace_lexer.specs.declared.token.Word.TheVariants as word
 use Rattle.mace_lexer.specs.declared.fault.LexFault.{LexFault}
 use Rattle.mace_lexer.specs.declared.fault.LexFault.TheVariants.{BadByte, NumberRange, OpenText, NameLong, TextLong}
 use Rattle.mace_lexer.specs.Words.{is_blank, is_comment, value_of, greatest, keyword, sign}
-use Rattle.wave_base.specs.Text.{quoted}
+use Rattle.wave_base.specs.Text.{quoted_text}
 
 -- a blank or a comment, a word, or what has the form of a word and is too large for one
 pub data Piece : Type 0 where
@@ -22,11 +22,11 @@ IsPiece Gap bs = (is_blank bs ≡ true) ⊎ (is_comment bs ≡ true)
 IsPiece (Spell (word.Name t)) bs = (is_word bs ≡ true) × (length bs ≤ NAME_BYTES) × (keyword bs ≡ None) × (t ≡ bs)
 IsPiece (Spell (word.Key k)) bs = keyword bs ≡ Some k
 IsPiece (Spell (word.Number n)) bs = (is_digits bs ≡ true) × (value_of bs ≤ greatest) × (n ≡ pos (value_of bs))
-IsPiece (Spell (word.Text t)) bs = (bs ≡ quoted t) × All IsPrintable t × (length t ≤ LITERAL_BYTES)
+IsPiece (Spell (word.Text t)) bs = (bs ≡ quoted_text t) × All IsPrintable t × (length t ≤ LITERAL_BYTES)
 IsPiece (Spell (word.Sign s)) bs = sign bs ≡ Some s
 IsPiece (Wrong NameLong) bs = (is_word bs ≡ true) × (NAME_BYTES < length bs)
 IsPiece (Wrong NumberRange) bs = (is_digits bs ≡ true) × (greatest < value_of bs)
-IsPiece (Wrong TextLong) bs = (t : List ℕ) × (bs ≡ quoted t) × All IsPrintable t × (LITERAL_BYTES < length t)
+IsPiece (Wrong TextLong) bs = (t : List ℕ) × (bs ≡ quoted_text t) × All IsPrintable t × (LITERAL_BYTES < length t)
 IsPiece (Wrong BadByte) bs = ⊥
 IsPiece (Wrong OpenText) bs = ⊥
 

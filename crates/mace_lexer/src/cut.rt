@@ -9,7 +9,7 @@ ghost use Rattle.mace_lexer.specs.inner.Fronts.{IsCut};
 use crate::entry::entry_in;
 use crate::fault::LexFault;
 use crate::keyword::{KEYWORDS, Keyword};
-use crate::quoted::quoted;
+use crate::quoted::quoted_cut;
 use crate::sign::{SIGNS, Sign};
 use crate::token::Word;
 use std::alloc::Global;
@@ -197,7 +197,7 @@ pub fn first_cut(alloc: Global, text: &[u8]) -> Result<Cut, OutOfMemory>
         Form::Blank => Ok(Cut::Gap(1)),
         Form::LineEnd => Ok(Cut::Gap(2)),
         Form::Comment => Ok(Cut::Gap(run(Class::Line, text))),
-        Form::Text => quoted(alloc, text),
+        Form::Text => quoted_cut(alloc, text),
         Form::Name => name(alloc, text),
         Form::Number => Ok(number(text)),
         Form::Sign => Ok(punctuation(text)),

@@ -70,7 +70,7 @@ fn body(alloc: Global, text: &[u8]) -> Result<(Vec<u8>, usize), OutOfMemory>
 }
 
 /// The text with the quote at the front.
-pub fn quoted(alloc: Global, text: &[u8]) -> Result<Cut, OutOfMemory>
+pub fn quoted_cut(alloc: Global, text: &[u8]) -> Result<Cut, OutOfMemory>
     requires some { 0 < length text.now }
     requires form { form_of text.now ≡ Form.Text }
     ensures { IfOk result (IsCut text.now) }

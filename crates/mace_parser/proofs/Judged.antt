@@ -12,7 +12,7 @@ use Rattle.mace_parser.specs.declared.fault.ParseError.TheVariants.{Expected, To
 use Rattle.mace_grammar.specs.Grammar as g
 use Rattle.mace_grammar.specs.inner.Run.{rest_of}
 use Rattle.mace_grammar.specs.Nest.{nest_after, IsShallow, IsFirstDeep}
-use Rattle.mace_grammar.specs.Spelled.{words, plain, Spelled, Begun, IsExpected, IsTooDeep, place_in}
+use Rattle.mace_grammar.specs.Spelled.{words, plain_token, Spelled, Begun, IsExpected, IsTooDeep, place_in}
 use Rattle.mace_parser.specs.Parsed.{TellsFault, AnswersTree, AnswersFault}
 use Rattle.mace_grammar.proofs.Verdict.{IsPlace}
 use Rattle.mace_grammar.proofs.Judge.{judge, one_tree, spelled_begun, begun_front, begun_all, shallow_front, shallow_all, judge_place, judge_begun}
@@ -25,16 +25,16 @@ words_take ts n = sym (take-map (λ t. t.word) n ts)
 words_length : (ts : List Token) → length (words ts) ≡ length ts
 words_length ts = length-map ts (λ t. t.word)
 
-plain_take : (ws : List Word) (n : ℕ) → take n (map plain ws) ≡ map plain (take n ws)
-plain_take ws n = take-map plain n ws
+plain_take : (ws : List Word) (n : ℕ) → take n (map plain_token ws) ≡ map plain_token (take n ws)
+plain_take ws n = take-map plain_token n ws
 
 -- the place among all words
-expected_by : (ws : List Word) (n : ℕ) → IsPlace g.service (map plain ws) n → IsShallow ws → IsExpected ws n
+expected_by : (ws : List Word) (n : ℕ) → IsPlace g.service (map plain_token ws) n → IsShallow ws → IsExpected ws n
 expected_by ws n p s = record {
-  within = omega (arith, p.within, length-map ws plain);
+  within = omega (arith, p.within, length-map ws plain_token);
   begun = subst (λ l. g.service.Begins l) (plain_take ws n) p.begins;
-  ends = λ l b. p.ends (omega (arith, length-map ws plain)) (subst (λ l. g.service.Begins l) (sym (plain_take ws (n + 1))) b);
-  unfinished = λ e t h. p.unfinished (e ∙ sym (length-map ws plain)) (bare_service t) h;
+  ends = λ l b. p.ends (omega (arith, length-map ws plain_token)) (subst (λ l. g.service.Begins l) (sym (plain_take ws (n + 1))) b);
+  unfinished = λ e t h. p.unfinished (e ∙ sym (length-map ws plain_token)) (bare_service t) h;
   shallow = shallow_all ws n s;
 }
 
@@ -57,10 +57,10 @@ module _ (ts rest : List Token) (j : ℕ) (front : List Token) (same : front ≡
       let ws = words ts in
       let n = j + 1 - length rest in
       let p0 = judge_place front rest h (λ s e. absurd (omega (arith, some, ap length (h ∙ ap rest_of e)))) in
-      let p : IsPlace g.service (map plain (take (j + 1) ws)) n = subst (λ l. IsPlace g.service (map plain l) n) front_words (subst (λ i. IsPlace g.service (map plain (words front)) (i - length rest)) front_length p0) in
-      let size : length (map plain (take (j + 1) ws)) ≡ j + 1 = length-map (take (j + 1) ws) plain ∙ sym (ap length front_words) ∙ words_length front ∙ front_length in
-      let here : take n (map plain (take (j + 1) ws)) ≡ map plain (take n ws) = plain_take (take (j + 1) ws) n ∙ ap (map plain) (take-take n (j + 1) ws (omega arith)) in
-      let next : take (n + 1) (map plain (take (j + 1) ws)) ≡ map plain (take (n + 1) ws) = plain_take (take (j + 1) ws) (n + 1) ∙ ap (map plain) (take-take (n + 1) (j + 1) ws (omega (arith, some, p.within))) in
+      let p : IsPlace g.service (map plain_token (take (j + 1) ws)) n = subst (λ l. IsPlace g.service (map plain_token l) n) front_words (subst (λ i. IsPlace g.service (map plain_token (words front)) (i - length rest)) front_length p0) in
+      let size : length (map plain_token (take (j + 1) ws)) ≡ j + 1 = length-map (take (j + 1) ws) plain_token ∙ sym (ap length front_words) ∙ words_length front ∙ front_length in
+      let here : take n (map plain_token (take (j + 1) ws)) ≡ map plain_token (take n ws) = plain_take (take (j + 1) ws) n ∙ ap (map plain_token) (take-take n (j + 1) ws (omega arith)) in
+      let next : take (n + 1) (map plain_token (take (j + 1) ws)) ≡ map plain_token (take (n + 1) ws) = plain_take (take (j + 1) ws) (n + 1) ∙ ap (map plain_token) (take-take (n + 1) (j + 1) ws (omega (arith, some, p.within))) in
       record {
         within = omega arith;
         begun = subst (λ l. g.service.Begins l) here p.begins;

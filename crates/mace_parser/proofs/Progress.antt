@@ -15,7 +15,7 @@ use Rattle.mace_grammar.specs.Words.{Edition, edition_of}
 use Rattle.mace_grammar.specs.declared.class.Class.{Class}
 use Rattle.mace_grammar.specs.declared.class.Class.TheVariants as class
 use Rattle.mace_grammar.specs.inner.Classes as classes
-use Rattle.mace_grammar.specs.inner.Run.{Outcome, Reader, and_then, give, after, taken, word, sees, choice, each, each_of, with_front, some}
+use Rattle.mace_grammar.specs.inner.Run.{Outcome, Reader, and_then, give, after, outcome_of, word, sees, choice, each, each_of, with_front, some}
 use Rattle.mace_grammar.specs.inner.Readers as reader
 use Rattle.mace_grammar.proofs.Outcomes.{left}
 use Rattle.mace_grammar.proofs.Reading.{Reads, Heads, shorter}
@@ -46,7 +46,7 @@ given = record { most = λ ts. omega arith }
 takes_word : {A : Type 0} (f : Token → Option A) → Takes (word f)
 takes_word {A = A} f = record { fewer = fewer; stuck = stuck }
   where
-    some_fewer : (t : Token) (ts rest : List Token) (a : A) (o : Option A) → taken (t ∷ ts) ts o ≡ Ok (a, rest) → length rest < length (t ∷ ts)
+    some_fewer : (t : Token) (ts rest : List Token) (a : A) (o : Option A) → outcome_of (t ∷ ts) ts o ≡ Ok (a, rest) → length rest < length (t ∷ ts)
     some_fewer t ts rest a (Some b) e = omega (arith, ap left e)
     some_fewer t ts rest a None e = cc
 
@@ -54,7 +54,7 @@ takes_word {A = A} f = record { fewer = fewer; stuck = stuck }
     fewer [] rest a e = cc
     fewer (t ∷ ts) rest a e = some_fewer t ts rest a (f t) e
 
-    none_stuck : (t : Token) (ts rest : List Token) (o : Option A) → taken (t ∷ ts) ts o ≡ Err rest → length rest ≤ length (t ∷ ts)
+    none_stuck : (t : Token) (ts rest : List Token) (o : Option A) → outcome_of (t ∷ ts) ts o ≡ Err rest → length rest ≤ length (t ∷ ts)
     none_stuck t ts rest (Some b) e = cc
     none_stuck t ts rest None e = omega (arith, ap left e)
 

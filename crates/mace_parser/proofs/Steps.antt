@@ -16,7 +16,7 @@ use Rattle.wave_base.specs.declared.span.Span.{Span}
 use Rattle.mace_parser.specs.declared.fault.Fault.{Fault}
 use Rattle.mace_parser.specs.declared.fault.Fault.TheVariants.{Memory, Stuck}
 use Rattle.mace_parser.specs.inner.Gives.{Fails}
-use Rattle.mace_grammar.specs.inner.Run.{Reader, Outcome, and_then, give, choice, sees, deeper, ◌>>=◌}
+use Rattle.mace_grammar.specs.inner.Run.{Reader, Outcome, and_then, give, choice, sees, nested_reader, ◌>>=◌}
 use Rattle.mace_grammar.specs.declared.class.Class.{Class}
 use Rattle.mace_grammar.specs.inner.Classes as classes
 use Rattle.mace_grammar.specs.Words.{Edition}
@@ -36,9 +36,9 @@ then_ok next h e = ap (λ o. and_then o next) h ∙ e
 then_err : {A B : Type 0} {o : Outcome A} (next : A → Reader B) {rest : List Token} → o ≡ Err rest → and_then o next ≡ Err rest
 then_err next h = ap (λ o. and_then o next) h
 
-pub deeper_pred : {A : Type 0} (body : ℕ → Reader A → Reader A) (depth : ℕ) (ts : List Token) → (depth ≡ 0 → ⊥) → deeper body depth ts ≡ body (depth - 1) (deeper body (depth - 1)) ts
+pub deeper_pred : {A : Type 0} (body : ℕ → Reader A → Reader A) (depth : ℕ) (ts : List Token) → (depth ≡ 0 → ⊥) → nested_reader body depth ts ≡ body (depth - 1) (nested_reader body (depth - 1)) ts
 deeper_pred body zero ts h = absurd (h refl)
-deeper_pred body (suc n) ts h = let same : n ≡ suc n - 1 = omega arith in ap (λ i. body i (deeper body i) ts) same
+deeper_pred body (suc n) ts h = let same : n ≡ suc n - 1 = omega arith in ap (λ i. body i (nested_reader body i) ts) same
 
 module _ (edition : Edition) where
   abbrev kind : Token → Class

@@ -70,14 +70,14 @@ impl Reader {
             ..self
         };
         if self.sees_any(&UNARY_OPS, tokens) {
-            return inner.signed(tokens);
+            return inner.signed_expr(tokens);
         }
         inner.primary(tokens)
     }
 
     #[cycle(expr)]
     #[tactic(auto, unfolding(mace_grammar::specs::inner::Readers::signed_at))]
-    fn signed<'a>(self, tokens: &'a [Token]) -> Read<'a, Expr>
+    fn signed_expr<'a>(self, tokens: &'a [Token]) -> Read<'a, Expr>
         ensures { Gives (λ x. (expr_tree x.0, x.1.now)) result (reader.signed_at (edition_of self.version) (reader.unary_at (edition_of self.version) self.depth) tokens.now) }
     {
         let ((at, op), rest) = unary_op(tokens)?;
@@ -94,14 +94,14 @@ impl Reader {
             return self.literal(tokens);
         }
         if self.sees_sign(Sign::LeftParen, tokens) {
-            return self.parenthesized(tokens);
+            return self.parenthesized_expr(tokens);
         }
         self.named_expr(tokens)
     }
 
     #[cycle(expr)]
     #[tactic(auto, unfolding(mace_grammar::specs::inner::Readers::parenthesized_at))]
-    fn parenthesized<'a>(self, tokens: &'a [Token]) -> Read<'a, Expr>
+    fn parenthesized_expr<'a>(self, tokens: &'a [Token]) -> Read<'a, Expr>
         ensures { Gives (λ x. (expr_tree x.0, x.1.now)) result (reader.parenthesized_at (edition_of self.version) (reader.unary_at (edition_of self.version) self.depth) tokens.now) }
     {
         let (_, rest) = sign(Sign::LeftParen, tokens)?;
@@ -113,7 +113,7 @@ impl Reader {
     /// `[k]`
     #[cycle(expr)]
     #[tactic(auto, unfolding(mace_grammar::specs::inner::Readers::bracketed_at))]
-    pub fn bracketed<'a>(self, tokens: &'a [Token]) -> Read<'a, Expr>
+    pub fn bracketed_expr<'a>(self, tokens: &'a [Token]) -> Read<'a, Expr>
         ensures { Gives (λ x. (expr_tree x.0, x.1.now)) result (reader.bracketed_at (edition_of self.version) (reader.unary_at (edition_of self.version) self.depth) tokens.now) }
     {
         let (_, rest) = sign(Sign::LeftBracket, tokens)?;
@@ -160,7 +160,7 @@ impl Reader {
         if !self.sees_sign(Sign::LeftBracket, rest) {
             return Ok((Expr::above(class, field), rest));
         }
-        let (key, rest) = self.bracketed(rest)?;
+        let (key, rest) = self.bracketed_expr(rest)?;
         Ok((Expr::above_index(self.alloc, class, field, key)?, rest))
     }
 
@@ -170,7 +170,7 @@ impl Reader {
     fn index<'a>(self, first: Name, tokens: &'a [Token]) -> Read<'a, Expr>
         ensures { Gives (λ x. (expr_tree x.0, x.1.now)) result (reader.index_at (edition_of self.version) (reader.unary_at (edition_of self.version) self.depth) first tokens.now) }
     {
-        let (key, rest) = self.bracketed(tokens)?;
+        let (key, rest) = self.bracketed_expr(tokens)?;
         if !self.sees_sign(Sign::Dot, rest) {
             return Ok((Expr::index(self.alloc, first, key)?, rest));
         }

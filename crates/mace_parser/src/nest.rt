@@ -48,7 +48,7 @@ impl Pieces {
 
     fn open(&mut self) -> Result<(), OutOfMemory>
         requires { spec.nest self.old ≤ NEST }
-        ensures { OnOk result (self.new ≡ spec.opened self.old) }
+        ensures { OnOk result (self.new ≡ spec.after_open self.old) }
     {
         self.under.push(self.current)?;
         self.current = 0;
@@ -57,7 +57,7 @@ impl Pieces {
     }
 
     fn close(&mut self)
-        ensures { self.new ≡ spec.closed self.old.under }
+        ensures { self.new ≡ spec.after_close self.old.under }
     {
         match self.under.pop() {
             Some(count) => {
@@ -72,7 +72,7 @@ impl Pieces {
     }
 
     fn clear(&mut self)
-        ensures { self.new ≡ spec.cleared self.old }
+        ensures { self.new ≡ spec.after_separator self.old }
     {
         self.nest -= self.current;
         self.current = 0;
@@ -80,7 +80,7 @@ impl Pieces {
 
     fn count(&mut self)
         requires { spec.nest self.old ≤ NEST }
-        ensures { self.new ≡ spec.counted self.old }
+        ensures { self.new ≡ spec.after_operator self.old }
     {
         self.current += 1;
         self.nest += 1;

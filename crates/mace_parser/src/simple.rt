@@ -49,7 +49,7 @@ impl Reader {
     pub fn any_key<'a>(self, tokens: &'a [Token]) -> Read<'a, Expr>
         ensures { Gives (λ x. (expr_tree x.0, x.1.now)) result (reader.any_key_at (edition_of self.version) self.depth tokens.now) }
     {
-        self.bracketed(tokens)
+        self.bracketed_expr(tokens)
     }
 
     #[tactic(auto, unfolding(mace_grammar::specs::inner::Readers::any_arguments_at))]

@@ -41,7 +41,7 @@ fn place(text: &[u8], tokens: &[Token], k: usize) -> Span
     }
 }
 
-fn expected(text: &[u8], tokens: &[Token], token: usize) -> ParseError
+fn expected_error(text: &[u8], tokens: &[Token], token: usize) -> ParseError
     requires { length text.now ≤ PLACED_BYTES }
     ensures { result ≡ ParseError.Expected token (place_in text.now tokens.now token) }
 {
@@ -59,7 +59,7 @@ fn shallow(alloc: Global, text: &[u8], tokens: &[Token]) -> Result<Service, Pars
 {
     match all(alloc, tokens) {
         Ok(s) => Ok(s),
-        Err(Fault::Stuck(rest)) => Err(expected(text, tokens, tokens.len() - rest.len())),
+        Err(Fault::Stuck(rest)) => Err(expected_error(text, tokens, tokens.len() - rest.len())),
         Err(Fault::Memory(refused)) => Err(ParseError::OutOfMemory(refused)),
     }
 }
@@ -73,7 +73,7 @@ fn too_deep(text: &[u8], tokens: &[Token], token: usize) -> ParseError
 }
 
 // Where token `deep` is nested too deep, and so many of the tokens up to it were not read.
-fn stopped(text: &[u8], tokens: &[Token], deep: usize, left: usize) -> ParseError
+fn stop_error(text: &[u8], tokens: &[Token], deep: usize, left: usize) -> ParseError
     requires text { length text.now ≤ PLACED_BYTES }
     requires left { left ≤ deep + 1 }
     requires deep { deep < length tokens.now }
@@ -83,7 +83,7 @@ fn stopped(text: &[u8], tokens: &[Token], deep: usize, left: usize) -> ParseErro
     if left == 0 {
         return too_deep(text, tokens, deep);
     }
-    expected(text, tokens, deep + 1 - left)
+    expected_error(text, tokens, deep + 1 - left)
 }
 
 // Where token `deep` is the first that is nested too deep: only what stands before it is read, and so no deeper.
@@ -94,7 +94,7 @@ fn cut_off(alloc: Global, text: &[u8], tokens: &[Token], deep: usize) -> ParseEr
 {
     match all(alloc, &tokens[..deep + 1]) {
         Ok(_) => too_deep(text, tokens, deep),
-        Err(Fault::Stuck(rest)) => stopped(text, tokens, deep, rest.len()),
+        Err(Fault::Stuck(rest)) => stop_error(text, tokens, deep, rest.len()),
         Err(Fault::Memory(refused)) => ParseError::OutOfMemory(refused),
     }
 }

@@ -12,13 +12,13 @@ use Rattle.mace_ast.specs.declared.expr.BinaryOp.{BinaryOp}
 use Rattle.mace_ast.specs.declared.expr.BinaryOp.TheVariants as op
 use Rattle.mace_ast.specs.Exprs as e
 use Rattle.mace_ast.specs.Exprs.{ExprTree, ExprTrees, no_exprs, expr_and, exprs_of, bare_expr, bare_exprs, nowhere}
-use Rattle.mace_grammar.specs.Part.{Part, ◌>>◌, many, nested}
+use Rattle.mace_grammar.specs.Part.{Part, ◌>>◌, many, nested_part}
 use Rattle.mace_grammar.specs.Words as w
 use Rattle.mace_grammar.specs.Words.{Edition}
 use Rattle.mace_grammar.specs.Fits.{IsName, Each, ExprFits, ExprsFit}
 use Rattle.mace_grammar.specs.Grammar as g
-use Rattle.mace_grammar.specs.Spelled.{plain}
-use Rattle.mace_printer.specs.Canon.{expr_words, args_words, more_words, in_parens, level_of, left_level_of, sign_of, unary_sign_of, boolean_key, whole_words, index_words, listed}
+use Rattle.mace_grammar.specs.Spelled.{plain_token}
+use Rattle.mace_printer.specs.Canon.{expr_words, args_words, more_words, in_parens, level_of, left_level_of, sign_of, unary_sign_of, boolean_key, whole_words, index_words, listed_words}
 use Rattle.mace_printer.proofs.Says.{Says, sign_says, named, name_says, field_says, parens_say}
 use Rattle.mace_printer.proofs.LevelSays
 
@@ -48,10 +48,10 @@ module _ (edition : Edition) where
 
   module _ (u : Part ExprTree) where
     pub index_says : (t : ExprTree) → Says (g.expr edition u) (bare_expr t) (expr_words t 0) → Says (g.bracketed edition u) (bare_expr t) (index_words t)
-    index_says t h = (nowhere, plain (word.Sign s.LeftBracket) ∷ [], _, refl, sign_says s.LeftBracket, (bare_expr t, map plain (expr_words t 0), _, map-append plain (expr_words t 0) (word.Sign s.RightBracket ∷ []), h, (nowhere, plain (word.Sign s.RightBracket) ∷ [], [], refl, sign_says s.RightBracket, (refl, refl))))
+    index_says t h = (nowhere, plain_token (word.Sign s.LeftBracket) ∷ [], _, refl, sign_says s.LeftBracket, (bare_expr t, map plain_token (expr_words t 0), _, map-append plain_token (expr_words t 0) (word.Sign s.RightBracket ∷ []), h, (nowhere, plain_token (word.Sign s.RightBracket) ∷ [], [], refl, sign_says s.RightBracket, (refl, refl))))
 
     parenthesized_says : (t : ExprTree) (ws : List Word) → Says (g.expr edition u) t ws → Says (g.parenthesized edition u) t (in_parens true ws)
-    parenthesized_says t ws h = (nowhere, plain (word.Sign s.LeftParen) ∷ [], _, refl, sign_says s.LeftParen, (t, map plain ws, _, map-append plain ws (word.Sign s.RightParen ∷ []), h, (nowhere, plain (word.Sign s.RightParen) ∷ [], [], refl, sign_says s.RightParen, (refl, refl))))
+    parenthesized_says t ws h = (nowhere, plain_token (word.Sign s.LeftParen) ∷ [], _, refl, sign_says s.LeftParen, (t, map plain_token ws, _, map-append plain_token ws (word.Sign s.RightParen ∷ []), h, (nowhere, plain_token (word.Sign s.RightParen) ∷ [], [], refl, sign_says s.RightParen, (refl, refl))))
 
     abbrev more_say : ExprTrees → Type 0
     more_say ts = Says (many (w.sign s.Comma >> (g.expr edition) u)) (list_of (bare_exprs ts)) (more_words ts)
@@ -63,28 +63,28 @@ module _ (edition : Edition) where
     further_say : (ts : ExprTrees) → all_say ts → more_say ts
     further_say no_exprs h = refl
     further_say (expr_and t ts) h = (
-      plain (word.Sign s.Comma) ∷ map plain (expr_words t 0),
+      plain_token (word.Sign s.Comma) ∷ map plain_token (expr_words t 0),
       _,
-      ap (λ l. plain (word.Sign s.Comma) ∷ l) (map-append plain (expr_words t 0) (more_words ts)),
-      (nowhere, plain (word.Sign s.Comma) ∷ [], _, refl, sign_says s.Comma, h.0),
+      ap (λ l. plain_token (word.Sign s.Comma) ∷ l) (map-append plain_token (expr_words t 0) (more_words ts)),
+      (nowhere, plain_token (word.Sign s.Comma) ∷ [], _, refl, sign_says s.Comma, h.0),
       further_say ts h.1,
     )
 
     arguments_say : (ts : ExprTrees) → all_say ts → Says (g.arguments edition u) (list_of (bare_exprs ts)) (word.Sign s.LeftParen ∷ (args_words ts ++ word.Sign s.RightParen ∷ []))
-    arguments_say no_exprs h = (nowhere, plain (word.Sign s.LeftParen) ∷ [], _, refl, sign_says s.LeftParen, (None, [], _, refl, refl, (nowhere, plain (word.Sign s.RightParen) ∷ [], [], refl, sign_says s.RightParen, (refl, refl))))
+    arguments_say no_exprs h = (nowhere, plain_token (word.Sign s.LeftParen) ∷ [], _, refl, sign_says s.LeftParen, (None, [], _, refl, refl, (nowhere, plain_token (word.Sign s.RightParen) ∷ [], [], refl, sign_says s.RightParen, (refl, refl))))
     arguments_say (expr_and t ts) h = (
       nowhere,
-      plain (word.Sign s.LeftParen) ∷ [],
+      plain_token (word.Sign s.LeftParen) ∷ [],
       _,
       refl,
       sign_says s.LeftParen,
       (
         Some (bare_expr t ∷ list_of (bare_exprs ts)),
-        map plain (args_words (expr_and t ts)),
+        map plain_token (args_words (expr_and t ts)),
         _,
-        map-append plain (args_words (expr_and t ts)) (word.Sign s.RightParen ∷ []),
-        (bare_expr t, map plain (expr_words t 0), _, map-append plain (expr_words t 0) (more_words ts), h.0, (list_of (bare_exprs ts), map plain (more_words ts), [], sym (append-nil (map plain (more_words ts))), further_say ts h.1, (refl, refl))),
-        (nowhere, plain (word.Sign s.RightParen) ∷ [], [], refl, sign_says s.RightParen, (refl, refl)),
+        map-append plain_token (args_words (expr_and t ts)) (word.Sign s.RightParen ∷ []),
+        (bare_expr t, map plain_token (expr_words t 0), _, map-append plain_token (expr_words t 0) (more_words ts), h.0, (list_of (bare_exprs ts), map plain_token (more_words ts), [], sym (append-nil (map plain_token (more_words ts))), further_say ts h.1, (refl, refl))),
+        (nowhere, plain_token (word.Sign s.RightParen) ∷ [], [], refl, sign_says s.RightParen, (refl, refl)),
       ),
     )
 
@@ -117,79 +117,79 @@ module _ (edition : Edition) where
   unary_fits unary.Neg = refl
   unary_fits unary.Not = refl
 
-  index_split : (p : ExprTree) (rest : List Word) → map plain (word.Sign s.LeftBracket ∷ (expr_words p 0 ++ word.Sign s.RightBracket ∷ rest)) ≡ map plain (index_words p) ++ map plain rest
+  index_split : (p : ExprTree) (rest : List Word) → map plain_token (word.Sign s.LeftBracket ∷ (expr_words p 0 ++ word.Sign s.RightBracket ∷ rest)) ≡ map plain_token (index_words p) ++ map plain_token rest
   index_split p rest =
       let E = expr_words p 0 in
-      ap (λ l. plain (word.Sign s.LeftBracket) ∷ l)
-      (map-append plain E (word.Sign s.RightBracket ∷ rest)
-      ∙ sym (append_assoc (map plain E) (plain (word.Sign s.RightBracket) ∷ []) (map plain rest))
-      ∙ ap (λ l. l ++ map plain rest) (sym (map-append plain E (word.Sign s.RightBracket ∷ []))))
+      ap (λ l. plain_token (word.Sign s.LeftBracket) ∷ l)
+      (map-append plain_token E (word.Sign s.RightBracket ∷ rest)
+      ∙ sym (append_assoc (map plain_token E) (plain_token (word.Sign s.RightBracket) ∷ []) (map plain_token rest))
+      ∙ ap (λ l. l ++ map plain_token rest) (sym (map-append plain_token E (word.Sign s.RightBracket ∷ []))))
 
   module _ (v : Part ExprTree) where
     number_node : (at : Span) (n : _) → Says (g.signed_or_primary edition v) (bare_expr (e.Number at n)) (expr_words (e.Number at n) 5)
-    number_node at n = inr (inl (plain (word.Number n), refl, refl))
+    number_node at n = inr (inl (plain_token (word.Number n), refl, refl))
 
     text_node : (at : Span) (t : List ℕ) → Says (g.signed_or_primary edition v) (bare_expr (e.Text at t)) (expr_words (e.Text at t) 5)
-    text_node at t = inr (inl (plain (word.Text t), refl, refl))
+    text_node at t = inr (inl (plain_token (word.Text t), refl, refl))
 
     boolean_node : (at : Span) (b : Bool) → Says (g.signed_or_primary edition v) (bare_expr (e.Boolean at b)) (expr_words (e.Boolean at b) 5)
-    boolean_node at b = inr (inl (plain (word.Key (boolean_key b)), refl, boolean_word b))
+    boolean_node at b = inr (inl (plain_token (word.Key (boolean_key b)), refl, boolean_word b))
 
     empty_node : (at : Span) → Says (g.signed_or_primary edition v) (bare_expr (e.Empty at)) (expr_words (e.Empty at) 5)
     empty_node at = inr (inl (_, refl, refl))
 
     read_node : (at : Span) (x : List ℕ) → IsName edition x → Says (g.signed_or_primary edition v) (bare_expr (e.Read at x)) (expr_words (e.Read at x) 5)
-    read_node at x i = inr (inr (inr (inl (named x, plain (word.Name x) ∷ [], [], refl, name_says edition x i, (refl, refl)))))
+    read_node at x i = inr (inr (inr (inl (named x, plain_token (word.Name x) ∷ [], [], refl, name_says edition x i, (refl, refl)))))
 
     above_node : (at : Span) (c x : List ℕ) → IsName edition c → IsName edition x → Says (g.signed_or_primary edition v) (bare_expr (e.Above at c x)) (expr_words (e.Above at c x) 5)
-    above_node at c x i j = inr (inr (inr (inr (inl (named c, plain (word.Name c) ∷ [], _, refl, name_says edition c i, (named x, map plain (word.Sign s.Dot ∷ word.Name x ∷ []), [], refl, field_says edition x j, (refl, refl)))))))
+    above_node at c x i j = inr (inr (inr (inr (inl (named c, plain_token (word.Name c) ∷ [], _, refl, name_says edition c i, (named x, map plain_token (word.Sign s.Dot ∷ word.Name x ∷ []), [], refl, field_says edition x j, (refl, refl)))))))
 
     index_node : (at : Span) (x : List ℕ) (p : ExprTree) → IsName edition x → Says (g.expr edition v) (bare_expr p) (expr_words p 0) → Says (g.signed_or_primary edition v) (bare_expr (e.Index at x p)) (expr_words (e.Index at x p) 5)
-    index_node at x p i h = inr (inr (inr (inr (inr (inr (inl (named x, plain (word.Name x) ∷ [], _, refl, name_says edition x i, (bare_expr p, map plain (index_words p), [], sym (append-nil (map plain (index_words p))), index_says v p h, (refl, refl)))))))))
+    index_node at x p i h = inr (inr (inr (inr (inr (inr (inl (named x, plain_token (word.Name x) ∷ [], _, refl, name_says edition x i, (bare_expr p, map plain_token (index_words p), [], sym (append-nil (map plain_token (index_words p))), index_says v p h, (refl, refl)))))))))
 
     above_index_node : (at : Span) (c x : List ℕ) (p : ExprTree) → IsName edition c → IsName edition x → Says (g.expr edition v) (bare_expr p) (expr_words p 0) → Says (g.signed_or_primary edition v) (bare_expr (e.AboveIndex at c x p)) (expr_words (e.AboveIndex at c x p) 5)
-    above_index_node at c x p i j h = inr (inr (inr (inr (inr (inr (inr (inl (named c, plain (word.Name c) ∷ [], _, refl, name_says edition c i, (named x, map plain (word.Sign s.Dot ∷ word.Name x ∷ []), _, refl, field_says edition x j, (bare_expr p, map plain (index_words p), [], sym (append-nil (map plain (index_words p))), index_says v p h, (refl, refl)))))))))))
+    above_index_node at c x p i j h = inr (inr (inr (inr (inr (inr (inr (inl (named c, plain_token (word.Name c) ∷ [], _, refl, name_says edition c i, (named x, map plain_token (word.Sign s.Dot ∷ word.Name x ∷ []), _, refl, field_says edition x j, (bare_expr p, map plain_token (index_words p), [], sym (append-nil (map plain_token (index_words p))), index_says v p h, (refl, refl)))))))))))
 
     abbrev paren_args : ExprTrees → List Word
     paren_args ts = word.Sign s.LeftParen ∷ (args_words ts ++ word.Sign s.RightParen ∷ [])
 
     call_node : (at : Span) (f : List ℕ) (ts : ExprTrees) → IsName edition f → all_say v ts → Says (g.signed_or_primary edition v) (bare_expr (e.Call at f ts)) (expr_words (e.Call at f ts) 5)
-    call_node at f ts i h = inr (inr (inr (inr (inr (inl (named f, plain (word.Name f) ∷ [], _, refl, name_says edition f i, (list_of (bare_exprs ts), map plain (paren_args ts), [], sym (append-nil (map plain (paren_args ts))), arguments_say v ts h, (ap (λ l. e.Call nowhere f l) (sym (list_back (bare_exprs ts))), refl))))))))
+    call_node at f ts i h = inr (inr (inr (inr (inr (inl (named f, plain_token (word.Name f) ∷ [], _, refl, name_says edition f i, (list_of (bare_exprs ts), map plain_token (paren_args ts), [], sym (append-nil (map plain_token (paren_args ts))), arguments_say v ts h, (ap (λ l. e.Call nowhere f l) (sym (list_back (bare_exprs ts))), refl))))))))
 
     child_node : (at : Span) (c : List ℕ) (p : ExprTree) (f : List ℕ) (ts : ExprTrees) → IsName edition c → IsName edition f → Says (g.expr edition v) (bare_expr p) (expr_words p 0) → all_say v ts → Says (g.signed_or_primary edition v) (bare_expr (e.ChildCall at c p f ts)) (expr_words (e.ChildCall at c p f ts) 5)
     child_node at c p f ts i j h k =
         let behind : List Word = word.Sign s.Dot ∷ word.Name f ∷ paren_args ts in
         inr (inr (inr (inr (inr (inr (inr (inr (
           named c,
-          plain (word.Name c) ∷ [],
+          plain_token (word.Name c) ∷ [],
           _,
           refl,
           name_says edition c i,
           (
             bare_expr p,
-            map plain (index_words p),
-            map plain behind,
+            map plain_token (index_words p),
+            map plain_token behind,
             index_split p behind,
             index_says v p h,
             (
               named f,
-              map plain (word.Sign s.Dot ∷ word.Name f ∷ []),
+              map plain_token (word.Sign s.Dot ∷ word.Name f ∷ []),
               _,
               refl,
               field_says edition f j,
-              (list_of (bare_exprs ts), map plain (paren_args ts), [], sym (append-nil (map plain (paren_args ts))), arguments_say v ts k, (ap (λ l. e.ChildCall nowhere c (bare_expr p) f l) (sym (list_back (bare_exprs ts))), refl)),
+              (list_of (bare_exprs ts), map plain_token (paren_args ts), [], sym (append-nil (map plain_token (paren_args ts))), arguments_say v ts k, (ap (λ l. e.ChildCall nowhere c (bare_expr p) f l) (sym (list_back (bare_exprs ts))), refl)),
             ),
           ),
         ))))))))
 
     unary_node : (at : Span) (o : UnaryOp) (x : ExprTree) → Says v (bare_expr x) (expr_words x 5) → Says (g.signed_or_primary edition v) (bare_expr (e.Unary at o x)) (expr_words (e.Unary at o x) 5)
-    unary_node at o x h = inl ((nowhere, o), plain (word.Sign (unary_sign_of o)) ∷ [], _, refl, (plain (word.Sign (unary_sign_of o)), refl, unary_fits o), (bare_expr x, map plain (expr_words x 5), [], sym (append-nil (map plain (expr_words x 5))), h, (refl, refl)))
+    unary_node at o x h = inl ((nowhere, o), plain_token (word.Sign (unary_sign_of o)) ∷ [], _, refl, (plain_token (word.Sign (unary_sign_of o)), refl, unary_fits o), (bare_expr x, map plain_token (expr_words x 5), [], sym (append-nil (map plain_token (expr_words x 5))), h, (refl, refl)))
 
     paren_node : (o : BinaryOp) (a b : ExprTree) → Levels v a → Levels v b → Says (g.signed_or_primary edition v) (joined o a b) (paren_words o a b)
     paren_node o a b A B = inr (inr (inl (parenthesized_says v (joined o a b) (own_words o a b) (LevelSays.as_expr edition v o (joined o a b) (own_words o a b) (LevelSays.own edition v o a b A B)))))
 
   abbrev at_depth : ℕ → Part ExprTree
-  at_depth n = nested (g.signed_or_primary edition) n
+  at_depth n = nested_part (g.signed_or_primary edition) n
 
   mutual
     said : (t : ExprTree) (n : ℕ) → nodes t ≤ n → ExprFits edition t → Levels (at_depth (suc n)) t
@@ -261,6 +261,6 @@ module _ (edition : Edition) where
   unfolding g.any_key
   any_key_says t f = index_says (g.unary edition) t (anywhere t f).expr
 
-  pub any_arguments_say : (args : List ExprTree) → Each (ExprFits edition) args → Says (g.any_arguments edition) (map bare_expr args) (word.Sign s.LeftParen ∷ (listed whole_words args ++ word.Sign s.RightParen ∷ []))
+  pub any_arguments_say : (args : List ExprTree) → Each (ExprFits edition) args → Says (g.any_arguments edition) (map bare_expr args) (word.Sign s.LeftParen ∷ (listed_words whole_words args ++ word.Sign s.RightParen ∷ []))
   unfolding g.any_arguments
   any_arguments_say args f = parens_say (g.expr edition (g.unary edition)) bare_expr whole_words (ExprFits edition) (λ t h. (anywhere t h).expr) args f

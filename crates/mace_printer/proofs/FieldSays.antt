@@ -18,7 +18,7 @@ use Rattle.mace_grammar.specs.Words as w
 use Rattle.mace_grammar.specs.Words.{Edition}
 use Rattle.mace_grammar.specs.Fits.{Each, VarFits, ParamFits}
 use Rattle.mace_grammar.specs.Grammar as g
-use Rattle.mace_grammar.specs.Spelled.{plain}
+use Rattle.mace_grammar.specs.Spelled.{plain_token}
 use Rattle.mace_printer.specs.Canon.{all_of, literal_words, var_words, boolean_key, kind_key, param_words, params_words, result_words}
 use Rattle.mace_printer.proofs.Says.{Says, key_says, sign_says, named, name_says, number_says, type_says, all_say, parens_say}
 
@@ -35,51 +35,51 @@ boolean_initial true = refl
 boolean_initial false = refl
 
 initial_says : (l : Literal) → Says g.initial (record { at = nowhere; value = l }) (literal_words l)
-initial_says (lit.Number n) = inl (plain (word.Number n), refl, refl)
-initial_says (lit.Minus n) = inr (nowhere, plain (word.Sign s.Minus) ∷ [], _, refl, sign_says s.Minus, (n, plain (word.Number n) ∷ [], [], refl, number_says n, (refl, refl)))
-initial_says (lit.Text bytes) = inl (plain (word.Text bytes), refl, refl)
-initial_says (lit.Bool b) = inl (plain (word.Key (boolean_key b)), refl, boolean_initial b)
-initial_says lit.Empty = inl (plain (word.Key k.Empty), refl, refl)
+initial_says (lit.Number n) = inl (plain_token (word.Number n), refl, refl)
+initial_says (lit.Minus n) = inr (nowhere, plain_token (word.Sign s.Minus) ∷ [], _, refl, sign_says s.Minus, (n, plain_token (word.Number n) ∷ [], [], refl, number_says n, (refl, refl)))
+initial_says (lit.Text bytes) = inl (plain_token (word.Text bytes), refl, refl)
+initial_says (lit.Bool b) = inl (plain_token (word.Key (boolean_key b)), refl, boolean_initial b)
+initial_says lit.Empty = inl (plain_token (word.Key k.Empty), refl, refl)
 
 module _ (edition : Edition) where
   var_says : (v : VarDecl) → VarFits edition v → Says (g.var edition) (bare_var v) (var_words v)
   var_says v f = (
     nowhere,
-    plain (word.Key k.Var) ∷ [],
+    plain_token (word.Key k.Var) ∷ [],
     _,
     refl,
     key_says k.Var,
     (
       named v.name.text,
-      plain (word.Name v.name.text) ∷ [],
+      plain_token (word.Name v.name.text) ∷ [],
       _,
       refl,
       name_says edition v.name.text f,
       (
         nowhere,
-        plain (word.Sign s.Colon) ∷ [],
+        plain_token (word.Sign s.Colon) ∷ [],
         _,
         refl,
         sign_says s.Colon,
         (
           v.kind,
-          plain (word.Key (kind_key v.kind)) ∷ [],
+          plain_token (word.Key (kind_key v.kind)) ∷ [],
           _,
           refl,
           type_says v.kind,
           (
             nowhere,
-            plain (word.Sign s.Equals) ∷ [],
+            plain_token (word.Sign s.Equals) ∷ [],
             _,
             refl,
             sign_says s.Equals,
             (
               record { at = nowhere; value = v.initial.value },
-              map plain (literal_words v.initial.value),
+              map plain_token (literal_words v.initial.value),
               _,
-              map-append plain (literal_words v.initial.value) semicolon,
+              map-append plain_token (literal_words v.initial.value) semicolon,
               initial_says v.initial.value,
-              (nowhere, map plain semicolon, [], refl, sign_says s.Semicolon, (refl, refl)),
+              (nowhere, map plain_token semicolon, [], refl, sign_says s.Semicolon, (refl, refl)),
             ),
           ),
         ),
@@ -95,17 +95,17 @@ module _ (edition : Edition) where
   param_says : (p : Param) → ParamFits edition p → Says (g.param edition) (bare_param p) (param_words p)
   param_says p f = (
     named p.name.text,
-    plain (word.Name p.name.text) ∷ [],
+    plain_token (word.Name p.name.text) ∷ [],
     _,
     refl,
     name_says edition p.name.text f,
     (
       nowhere,
-      plain (word.Sign s.Colon) ∷ [],
+      plain_token (word.Sign s.Colon) ∷ [],
       _,
       refl,
       sign_says s.Colon,
-      (p.kind, plain (word.Key (kind_key p.kind)) ∷ [], [], refl, type_says p.kind, (refl, refl)),
+      (p.kind, plain_token (word.Key (kind_key p.kind)) ∷ [], [], refl, type_says p.kind, (refl, refl)),
     ),
   )
 
@@ -114,4 +114,4 @@ module _ (edition : Edition) where
 
   pub result_says : (o : Option Kind) → Says g.result o (result_words o)
   result_says None = refl
-  result_says (Some j) = (nowhere, plain (word.Sign s.Colon) ∷ [], _, refl, sign_says s.Colon, type_says j)
+  result_says (Some j) = (nowhere, plain_token (word.Sign s.Colon) ∷ [], _, refl, sign_says s.Colon, type_says j)

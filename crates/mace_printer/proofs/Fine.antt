@@ -19,7 +19,7 @@ use Rattle.mace_grammar.specs.Words as w
 use Rattle.mace_grammar.specs.Words.{Edition, first}
 use Rattle.mace_grammar.specs.Fits.{Each, IfThere}
 use Rattle.mace_grammar.specs.Grammar as g
-use Rattle.mace_printer.specs.Canon.{in_parens, level_of, left_level_of, sign_of, expr_words, args_words, more_words, whole_words, index_words, listed, call_words, target_words, maybe_index, stmt_words, stmts_words, else_words, body_words, braced_words, maybe_words}
+use Rattle.mace_printer.specs.Canon.{in_parens, level_of, left_level_of, sign_of, expr_words, args_words, more_words, whole_words, index_words, listed_words, call_words, target_words, maybe_index, stmt_words, stmts_words, else_words, body_words, braced_words, maybe_words}
 use Rattle.mace_printer.proofs.Standing.{CanStand, Stand}
 use Rattle.mace_printer.proofs.Holds.{Holds, any, pure_holds, word_holds, then_holds, or_holds, many_holds, maybe_holds, deep_holds, Named, name_holds, field_holds, in_parens_hold, all_stand, listed_stand, stand_both}
 
@@ -164,8 +164,8 @@ module _ (edition : Edition) where
   pub value_ended : (t : ExprTree) → Fine t → Stand (whole_words t ++ semicolon)
   value_ended t h = ended (whole_words t) (h 0)
 
-  paren_args_fine : (found : List ExprTree) → Each Fine found → Stand (word.Sign s.LeftParen ∷ (listed whole_words found ++ (word.Sign s.RightParen ∷ [])))
-  paren_args_fine found h = (tt, stand_both (listed whole_words found) (word.Sign s.RightParen ∷ []) (listed_stand Fine whole_words (λ t ht. ht 0) found h) (tt, tt))
+  paren_args_fine : (found : List ExprTree) → Each Fine found → Stand (word.Sign s.LeftParen ∷ (listed_words whole_words found ++ (word.Sign s.RightParen ∷ [])))
+  paren_args_fine found h = (tt, stand_both (listed_words whole_words found) (word.Sign s.RightParen ∷ []) (listed_stand Fine whole_words (λ t ht. ht 0) found h) (tt, tt))
 
   call_words_fine : (f : List ℕ) (found : List ExprTree) → CanStand (word.Name f) → Each Fine found → Stand (call_words f found)
   call_words_fine f found hf h = (hf, paren_args_fine found h)

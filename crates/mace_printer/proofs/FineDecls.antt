@@ -24,7 +24,7 @@ use Rattle.mace_grammar.specs.Words as w
 use Rattle.mace_grammar.specs.Words.{Edition, first, edition_of}
 use Rattle.mace_grammar.specs.Fits.{Each, IfThere}
 use Rattle.mace_grammar.specs.Grammar as g
-use Rattle.mace_printer.specs.Canon.{index_words, listed, stmt_words, body_words, braced_words, literal_words, var_words, param_words, params_words, result_words, last_words, method_words, phase_words, here_words, event_words, context_words, contexts_words, number, version_words, service_words, all_of}
+use Rattle.mace_printer.specs.Canon.{index_words, listed_words, stmt_words, body_words, braced_words, literal_words, var_words, param_words, params_words, result_words, last_words, method_words, phase_words, here_words, event_words, context_words, contexts_words, number, version_words, service_words, all_of}
 use Rattle.mace_printer.specs.Written.{IsParsed}
 use Rattle.mace_printer.proofs.Standing.{CanStand, Stand}
 use Rattle.mace_printer.proofs.Holds.{Holds, any, pure_holds, word_holds, then_holds, or_holds, many_holds, maybe_holds, deep_holds, Named, name_holds, in_parens_hold, all_stand, listed_stand, stand_both, cuts_good}
@@ -97,7 +97,7 @@ module _ (edition : Edition) where
   params_hold = in_parens_hold param_holds
 
   params_fine : (ps : List Param) → Each FineParam ps → Stand (params_words ps)
-  params_fine ps h = (tt, stand_both (listed param_words ps) (word.Sign s.RightParen ∷ []) (listed_stand FineParam param_words (λ p hp. hp) ps h) (tt, tt))
+  params_fine ps h = (tt, stand_both (listed_words param_words ps) (word.Sign s.RightParen ∷ []) (listed_stand FineParam param_words (λ p hp. hp) ps h) (tt, tt))
 
   result_fine : (o : Option Kind) → Stand (result_words o)
   result_fine None = tt

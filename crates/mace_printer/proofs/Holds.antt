@@ -9,12 +9,12 @@ use Rattle.mace_lexer.specs.declared.keyword.Keyword.TheVariants as k
 use Rattle.mace_lexer.specs.declared.sign.Sign.TheVariants as s
 use Rattle.mace_lexer.specs.Cuts.{Cuts, at_end, gap, spelled}
 use Rattle.mace_ast.specs.declared.name.Name.{Name}
-use Rattle.mace_grammar.specs.Part.{Part, pure, one, ◌>>=◌, ◌or◌, many, maybe, SpellsAll, SpellsMaybe, nested, deep}
+use Rattle.mace_grammar.specs.Part.{Part, pure, one, ◌>>=◌, ◌or◌, many, maybe, SpellsAll, SpellsMaybe, nested_part, deep_part}
 use Rattle.mace_grammar.specs.Words as w
 use Rattle.mace_grammar.specs.Words.{Edition}
 use Rattle.mace_grammar.specs.Fits.{Each, IfThere, IsName}
 use Rattle.mace_grammar.specs.Grammar as g
-use Rattle.mace_printer.specs.Canon.{all_of, further, listed}
+use Rattle.mace_printer.specs.Canon.{all_of, further_words, listed_words}
 use Rattle.mace_printer.proofs.Standing.{CanStand, Stand, read_stands}
 
 abbrev pub Good : List Token → Type 0
@@ -70,11 +70,11 @@ maybe_holds {A = A} {P = P} {p = p} H = record { of = go }
     go None ts h s = tt
     go (Some a) ts h s = H.of a ts h s
 
-nested_holds : {A : Type 0} (P : A → Type 0) (body : Part A → Part A) → ((p : Part A) → Holds P p → Holds P (body p)) → (n : ℕ) → Holds P (nested body n)
+nested_holds : {A : Type 0} (P : A → Type 0) (body : Part A → Part A) → ((p : Part A) → Holds P p → Holds P (body p)) → (n : ℕ) → Holds P (nested_part body n)
 nested_holds P body step zero = record { of = λ a ts h s. absurd s }
-nested_holds P body step (suc n) = step (nested body n) (nested_holds P body step n)
+nested_holds P body step (suc n) = step (nested_part body n) (nested_holds P body step n)
 
-pub deep_holds : {A : Type 0} (P : A → Type 0) (body : Part A → Part A) → ((p : Part A) → Holds P p → Holds P (body p)) → Holds P (deep body)
+pub deep_holds : {A : Type 0} (P : A → Type 0) (body : Part A → Part A) → ((p : Part A) → Holds P p → Holds P (body p)) → Holds P (deep_part body)
 deep_holds P body step = record { of = λ a ts h s. (nested_holds P body step s.0).of a ts h s.1 }
 
 -- ---- names
@@ -171,10 +171,10 @@ module _ {X : Type 0} (P : X → Type 0) (ws : X → List Word) (stands : (x : X
   all_stand [] h = tt
   all_stand (x ∷ xs) h = stand_both (ws x) (all_of ws xs) (stands x h.0) (all_stand xs h.1)
 
-  pub further_stand : (xs : List X) → Each P xs → Stand (further ws xs)
+  pub further_stand : (xs : List X) → Each P xs → Stand (further_words ws xs)
   further_stand [] h = tt
-  further_stand (x ∷ xs) h = (tt, stand_both (ws x) (further ws xs) (stands x h.0) (further_stand xs h.1))
+  further_stand (x ∷ xs) h = (tt, stand_both (ws x) (further_words ws xs) (stands x h.0) (further_stand xs h.1))
 
-  pub listed_stand : (xs : List X) → Each P xs → Stand (listed ws xs)
+  pub listed_stand : (xs : List X) → Each P xs → Stand (listed_words ws xs)
   listed_stand [] h = tt
-  listed_stand (x ∷ xs) h = stand_both (ws x) (further ws xs) (stands x h.0) (further_stand xs h.1)
+  listed_stand (x ∷ xs) h = stand_both (ws x) (further_words ws xs) (stands x h.0) (further_stand xs h.1)

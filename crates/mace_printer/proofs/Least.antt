@@ -18,7 +18,7 @@ use Rattle.mace_ast.specs.declared.field.Literal.TheVariants as lit
 use Rattle.mace_ast.specs.Stmts.{StmtTree}
 use Rattle.mace_ast.specs.Decls.{LastTree, ContextTree, contexts_of, ServiceTree}
 use Rattle.wave_base.specs.declared.value.Kind.{Kind}
-use Rattle.mace_grammar.specs.Part.{Part, one, ◌>>◌, SpellsMaybe, nested}
+use Rattle.mace_grammar.specs.Part.{Part, one, ◌>>◌, SpellsMaybe, nested_part}
 use Rattle.mace_grammar.specs.Words as w
 use Rattle.mace_grammar.specs.Words.{Edition, edition_of}
 use Rattle.mace_grammar.specs.Grammar as g
@@ -124,7 +124,7 @@ module _ (edition : Edition) where
       let (x7, f7, b7, e7, k7, r7) = r6 in
       let (x8, f8, b8, e8, k8, r8) = r7 in
       subst (λ a. length (c.method_words a) ≤ length ts) (sym r8.0)
-      (omega (arith, closed, length-append {A = Word}, length-append {A = Token}, ap length e1, ap length k1.1, ap length e2, ap length k2.1, ap length e3, params_least x3 f3 k3, ap length e4, result_least x4 f4 k4, ap length e5, ap length k5.1, ap length e6, LeastStmts.stmts_least edition x6 f6 k6, ap length e7, returned_least x7 f7 k7, ap length e8, ap length k8.1, ap length r8.1, length-append (c.listed c.param_words x3) (c.sign s.RightParen)))
+      (omega (arith, closed, length-append {A = Word}, length-append {A = Token}, ap length e1, ap length k1.1, ap length e2, ap length k2.1, ap length e3, params_least x3 f3 k3, ap length e4, result_least x4 f4 k4, ap length e5, ap length k5.1, ap length e6, LeastStmts.stmts_least edition x6 f6 k6, ap length e7, returned_least x7 f7 k7, ap length e8, ap length k8.1, ap length r8.1, length-append (c.listed_words c.param_words x3) (c.sign s.RightParen)))
 
   down_least : Least (g.down edition) (λ a. length (c.phase_words a))
   down_least a ts h =
@@ -153,7 +153,7 @@ module _ (edition : Edition) where
       let (x8, f8, b8, e8, k8, r8) = r7 in
       let (x9, f9, b9, e9, k9, r9) = r8 in
       subst (λ a. length (c.event_words a) ≤ length ts) (sym r9.0)
-      (omega (arith, closed, length-append {A = Word}, length-append {A = Token}, ap length e1, ap length k1.1, ap length e2, ap length k2.1, ap length e3, params_least x3 f3 k3, ap length e4, result_least x4 f4 k4, ap length e5, ap length k5.1, ap length e6, here_least x6 f6 k6, ap length e7, LeastExprs.all_least (g.down edition) c.phase_words down_least x7 f7 k7, ap length e8, replied_least x8 f8 k8, ap length e9, ap length k9.1, ap length r9.1, length-append (c.listed c.param_words x3) (c.sign s.RightParen)))
+      (omega (arith, closed, length-append {A = Word}, length-append {A = Token}, ap length e1, ap length k1.1, ap length e2, ap length k2.1, ap length e3, params_least x3 f3 k3, ap length e4, result_least x4 f4 k4, ap length e5, ap length k5.1, ap length e6, here_least x6 f6 k6, ap length e7, LeastExprs.all_least (g.down edition) c.phase_words down_least x7 f7 k7, ap length e8, replied_least x8 f8 k8, ap length e9, ap length k9.1, ap length r9.1, length-append (c.listed_words c.param_words x3) (c.sign s.RightParen)))
 
   module _ (context : Part ContextTree) (least : Least context (λ a. length (c.context_words a))) where
     one_context_least : Least (g.one_context edition context) (λ a. length (c.context_words a))
@@ -171,9 +171,9 @@ module _ (edition : Edition) where
         subst (λ a. length (c.context_words a) ≤ length ts) (sym r10.0)
         (omega (arith, closed, length-append {A = Word}, length-append {A = Token}, ap length e1, ap length k1.1, ap length e2, ap length k2.1, ap length e3, ap length k3.1, ap length e4, ap length k4.1, ap length e5, ap length k5.1, ap length e6, ap length k6.1, ap length e7, LeastExprs.all_least (g.var edition) c.var_words var_least x7 f7 k7, ap length e8, LeastExprs.all_least context c.context_words least x8 f8 k8, ap length e9, LeastExprs.all_least (g.method edition) c.method_words method_least x9 f9 k9, ap length e10, ap length k10.1, ap length r10.1, ap length (contexts_same x8)))
 
-  nested_context_least : (n : ℕ) → Least (nested (g.one_context edition) n) (λ a. length (c.context_words a))
+  nested_context_least : (n : ℕ) → Least (nested_part (g.one_context edition) n) (λ a. length (c.context_words a))
   nested_context_least zero a ts h = absurd h
-  nested_context_least (suc n) a ts h = one_context_least (nested (g.one_context edition) n) (nested_context_least n) a ts h
+  nested_context_least (suc n) a ts h = one_context_least (nested_part (g.one_context edition) n) (nested_context_least n) a ts h
 
   context_least : Least (g.context edition) (λ a. length (c.context_words a))
   context_least a ts h = nested_context_least h.0 a ts h.1

@@ -13,7 +13,7 @@ use Rattle.mace_ast.specs.declared.expr.BinaryOp.{BinaryOp}
 use Rattle.mace_ast.specs.declared.expr.BinaryOp.TheVariants as op
 use Rattle.mace_ast.specs.Exprs as e
 use Rattle.mace_ast.specs.Exprs.{ExprTree, exprs_of, place_of}
-use Rattle.mace_grammar.specs.Part.{Part, ◌>>◌, SpellsAll, SpellsMaybe, nested}
+use Rattle.mace_grammar.specs.Part.{Part, ◌>>◌, SpellsAll, SpellsMaybe, nested_part}
 use Rattle.mace_grammar.specs.Words as w
 use Rattle.mace_grammar.specs.Words.{Edition}
 use Rattle.mace_grammar.specs.Grammar as g
@@ -160,30 +160,30 @@ module _ (item : Part ExprTree) (f : Sign → Option BinaryOp) (l : ℕ) (fits :
 -- ---- lists in parentheses
 
 module _ {A : Type 0} (item : Part A) (words : A → List Word) (least : Least item (λ a. length (words a))) where
-  further_least : (xs : List A) (ts : List Token) → SpellsAll (w.sign s.Comma >> item) xs ts → length (c.further words xs) ≤ length ts
+  further_least : (xs : List A) (ts : List Token) → SpellsAll (w.sign s.Comma >> item) xs ts → length (c.further_words words xs) ≤ length ts
   further_least [] ts h = omega arith
   further_least (x ∷ xs) ts h =
       let (front, back, q, k, rest) = h in
       let (at, f1, b1, e1, k1, r1) = k in
       omega (arith, least x b1 r1, further_least xs back rest, length-append {A = Word}, length-append {A = Token}, ap length q, ap length e1, ap length k1.1)
 
-  listed_least : Least (g.listed item) (λ xs. length (c.listed words xs))
+  listed_least : Least (g.listed item) (λ xs. length (c.listed_words words xs))
   listed_least xs ts h =
       let (first, f1, b1, e1, k1, r1) = h in
       let (others, f2, b2, e2, k2, r2) = r1 in
-      subst (λ xs. length (c.listed words xs) ≤ length ts) (sym r2.0)
+      subst (λ xs. length (c.listed_words words xs) ≤ length ts) (sym r2.0)
       (omega (arith, least first f1 k1, further_least others f2 k2, length-append {A = Word}, length-append {A = Token}, ap length e1, ap length e2))
 
-  found_least : (found : Option (List A)) (ts : List Token) → SpellsMaybe (g.listed item) found ts → length (c.listed words (unwrap_or found [])) ≤ length ts
+  found_least : (found : Option (List A)) (ts : List Token) → SpellsMaybe (g.listed item) found ts → length (c.listed_words words (unwrap_or found [])) ≤ length ts
   found_least None ts h = omega arith
   found_least (Some xs) ts h = listed_least xs ts h
 
-  pub parens_least : Least (g.in_parens item) (λ xs. 2 + length (c.listed words xs))
+  pub parens_least : Least (g.in_parens item) (λ xs. 2 + length (c.listed_words words xs))
   parens_least xs ts h =
       let (at, f1, b1, e1, k1, r1) = h in
       let (found, f2, b2, e2, k2, r2) = r1 in
       let (end, f3, b3, e3, k3, r3) = r2 in
-      subst (λ xs. 2 + length (c.listed words xs) ≤ length ts) (sym r3.0)
+      subst (λ xs. 2 + length (c.listed_words words xs) ≤ length ts) (sym r3.0)
       (omega (arith, found_least found f2 k2, length-append {A = Token}, ap length e1, ap length k1.1, ap length e2, ap length e3, ap length k3.1))
 
   -- one behind the other
@@ -193,11 +193,11 @@ module _ {A : Type 0} (item : Part A) (words : A → List Word) (least : Least i
       let (front, back, q, k, rest) = h in
       omega (arith, least x front k, all_least xs back rest, length-append {A = Word}, length-append {A = Token}, ap length q)
 
-more_same : (xs : List ExprTree) → more_words (exprs_of xs) ≡ c.further whole_words xs
+more_same : (xs : List ExprTree) → more_words (exprs_of xs) ≡ c.further_words whole_words xs
 more_same [] = refl
 more_same (x ∷ xs) = ap (λ ws. word.Sign s.Comma ∷ (whole_words x ++ ws)) (more_same xs)
 
-args_same : (xs : List ExprTree) → args_words (exprs_of xs) ≡ c.listed whole_words xs
+args_same : (xs : List ExprTree) → args_words (exprs_of xs) ≡ c.listed_words whole_words xs
 args_same [] = refl
 args_same (x ∷ xs) = ap (λ ws. whole_words x ++ ws) (more_same xs)
 
@@ -250,7 +250,7 @@ module _ (edition : Edition) where
     pub expr_least : Least (g.expr edition u) (λ a. length (whole_words a))
     expr_least = chain_least (g.conjunction edition u) w.or_op 0 or_fits conjunction_least
 
-    pub arguments_least : Least (g.arguments edition u) (λ xs. 2 + length (c.listed whole_words xs))
+    pub arguments_least : Least (g.arguments edition u) (λ xs. 2 + length (c.listed_words whole_words xs))
     arguments_least = parens_least (g.expr edition u) whole_words expr_least
 
     pub bracketed_least : Least (g.bracketed edition u) (λ a. 2 + length (whole_words a))
@@ -331,9 +331,9 @@ module _ (edition : Edition) where
     unary_or_primary a ts (inr (inr (inr (inr (inr (inr (inr (inl h)))))))) = above_index_least a ts h
     unary_or_primary a ts (inr (inr (inr (inr (inr (inr (inr (inr h)))))))) = child_call_least a ts h
 
-  nested_least : (n : ℕ) → Least (nested (g.signed_or_primary edition) n) (λ a. length (expr_words a 5))
+  nested_least : (n : ℕ) → Least (nested_part (g.signed_or_primary edition) n) (λ a. length (expr_words a 5))
   nested_least zero a ts h = absurd h
-  nested_least (suc n) a ts h = unary_or_primary (nested (g.signed_or_primary edition) n) (nested_least n) a ts h
+  nested_least (suc n) a ts h = unary_or_primary (nested_part (g.signed_or_primary edition) n) (nested_least n) a ts h
 
   unary_least : Least (g.unary edition) (λ a. length (expr_words a 5))
   unary_least a ts h = nested_least h.0 a ts h.1
@@ -342,7 +342,7 @@ module _ (edition : Edition) where
   unfolding g.any_expr
   any_expr_least = expr_least (g.unary edition) unary_least
 
-  pub any_arguments_least : Least (g.any_arguments edition) (λ xs. 2 + length (c.listed whole_words xs))
+  pub any_arguments_least : Least (g.any_arguments edition) (λ xs. 2 + length (c.listed_words whole_words xs))
   unfolding g.any_arguments
   any_arguments_least = arguments_least (g.unary edition) unary_least
 

@@ -7,7 +7,7 @@ use Rattle.mace_lexer.specs.declared.sign.Sign.TheVariants as s
 use Rattle.mace_ast.specs.declared.name.Name.{Name}
 use Rattle.mace_ast.specs.Exprs.{ExprTree}
 use Rattle.mace_ast.specs.Stmts.{StmtTree, stmts_of, else_of}
-use Rattle.mace_grammar.specs.Part.{Part, ◌>>◌, SpellsAll, SpellsMaybe, nested}
+use Rattle.mace_grammar.specs.Part.{Part, ◌>>◌, SpellsAll, SpellsMaybe, nested_part}
 use Rattle.mace_grammar.specs.Words as w
 use Rattle.mace_grammar.specs.Words.{Edition}
 use Rattle.mace_grammar.specs.Grammar as g
@@ -20,7 +20,7 @@ module _ (edition : Edition) where
   abbrev any_expr_least : Least (g.any_expr edition) (λ a. length (whole_words a))
   any_expr_least = LeastExprs.any_expr_least edition
 
-  abbrev any_arguments_least : Least (g.any_arguments edition) (λ xs. 2 + length (c.listed whole_words xs))
+  abbrev any_arguments_least : Least (g.any_arguments edition) (λ xs. 2 + length (c.listed_words whole_words xs))
   any_arguments_least = LeastExprs.any_arguments_least edition
 
   abbrev any_key_least : Least (g.any_key edition) (λ a. 2 + length (whole_words a))
@@ -71,7 +71,7 @@ module _ (edition : Edition) where
       let (x3, f3, b3, e3, k3, r3) = r2 in
       let (x4, f4, b4, e4, k4, r4) = r3 in
       subst (λ a. length (c.stmt_words a) ≤ length ts) (sym r4.0)
-      (omega (arith, closed, length-append {A = Word}, length-append {A = Token}, ap length e1, ap length k1.1, ap length e2, ap length k2.1, ap length e3, any_arguments_least x3 f3 k3, ap length e4, ap length k4.1, ap length r4.1, length-append (c.listed whole_words x3) (c.sign s.RightParen)))
+      (omega (arith, closed, length-append {A = Word}, length-append {A = Token}, ap length e1, ap length k1.1, ap length e2, ap length k2.1, ap length e3, any_arguments_least x3 f3 k3, ap length e4, ap length k4.1, ap length r4.1, length-append (c.listed_words whole_words x3) (c.sign s.RightParen)))
 
   drop_least : Least (g.drop_stmt edition) (λ a. length (c.stmt_words a))
   drop_least a ts h =
@@ -100,7 +100,7 @@ module _ (edition : Edition) where
       let (x2, f2, b2, e2, k2, r2) = r1 in
       let (x3, f3, b3, e3, k3, r3) = r2 in
       subst (λ a. length (c.stmt_words a) ≤ length ts) (sym r3.0)
-      (omega (arith, closed, length-append {A = Word}, length-append {A = Token}, ap length e1, ap length k1.1, ap length e2, any_arguments_least x2 f2 k2, ap length e3, ap length k3.1, ap length r3.1, length-append (c.listed whole_words x2) (c.sign s.RightParen)))
+      (omega (arith, closed, length-append {A = Word}, length-append {A = Token}, ap length e1, ap length k1.1, ap length e2, any_arguments_least x2 f2 k2, ap length e3, ap length k3.1, ap length r3.1, length-append (c.listed_words whole_words x2) (c.sign s.RightParen)))
 
   child_call_stmt_least : Least (g.child_call_stmt edition) (λ a. length (c.stmt_words a))
   child_call_stmt_least a ts h =
@@ -110,7 +110,7 @@ module _ (edition : Edition) where
       let (x4, f4, b4, e4, k4, r4) = r3 in
       let (x5, f5, b5, e5, k5, r5) = r4 in
       subst (λ a. length (c.stmt_words a) ≤ length ts) (sym r5.0)
-      (omega (arith, closed, length-append {A = Word}, length-append {A = Token}, ap length e1, ap length k1.1, ap length e2, any_key_least x2 f2 k2, ap length e3, LeastExprs.field_least edition x3 f3 k3, ap length e4, any_arguments_least x4 f4 k4, ap length e5, ap length k5.1, ap length r5.1, length-append (whole_words x2) (c.sign s.RightBracket), length-append (c.call_words x3.text x4) (c.sign s.Semicolon), length-append (c.listed whole_words x4) (c.sign s.RightParen)))
+      (omega (arith, closed, length-append {A = Word}, length-append {A = Token}, ap length e1, ap length k1.1, ap length e2, any_key_least x2 f2 k2, ap length e3, LeastExprs.field_least edition x3 f3 k3, ap length e4, any_arguments_least x4 f4 k4, ap length e5, ap length k5.1, ap length r5.1, length-append (whole_words x2) (c.sign s.RightBracket), length-append (c.call_words x3.text x4) (c.sign s.Semicolon), length-append (c.listed_words whole_words x4) (c.sign s.RightParen)))
 
   maybe_expr_least : (value : Option ExprTree) (ts : List Token) → SpellsMaybe (g.any_expr edition) value ts → length (c.maybe_words value) ≤ length ts
   maybe_expr_least None ts h = omega arith
@@ -198,9 +198,9 @@ module _ (edition : Edition) where
     any_stmt_least a ts (inr (inr (inr (inr (inr (inr (inr (inr (inr (inr (inr (inl h)))))))))))) = call_stmt_least a ts h
     any_stmt_least a ts (inr (inr (inr (inr (inr (inr (inr (inr (inr (inr (inr (inr h)))))))))))) = child_call_stmt_least a ts h
 
-  nested_stmt_least : (n : ℕ) → Least (nested (g.any_stmt edition) n) (λ a. length (c.stmt_words a))
+  nested_stmt_least : (n : ℕ) → Least (nested_part (g.any_stmt edition) n) (λ a. length (c.stmt_words a))
   nested_stmt_least zero a ts h = absurd h
-  nested_stmt_least (suc n) a ts h = any_stmt_least (nested (g.any_stmt edition) n) (nested_stmt_least n) a ts h
+  nested_stmt_least (suc n) a ts h = any_stmt_least (nested_part (g.any_stmt edition) n) (nested_stmt_least n) a ts h
 
   stmt_least : Least (g.stmt edition) (λ a. length (c.stmt_words a))
   stmt_least a ts h = nested_stmt_least h.0 a ts h.1

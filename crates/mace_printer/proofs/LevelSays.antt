@@ -15,7 +15,7 @@ use Rattle.mace_grammar.specs.Part.{Part, SpellsAll}
 use Rattle.mace_grammar.specs.Words as w
 use Rattle.mace_grammar.specs.Words.{Edition}
 use Rattle.mace_grammar.specs.Grammar as g
-use Rattle.mace_grammar.specs.Spelled.{plain}
+use Rattle.mace_grammar.specs.Spelled.{plain_token}
 use Rattle.mace_printer.specs.Canon.{expr_words, in_parens, level_of, left_level_of, sign_of}
 use Rattle.mace_printer.proofs.Says.{Says}
 
@@ -37,7 +37,7 @@ module _ (edition : Edition) where
   -- ---- chains
 
   chain_one : (item : Part ExprTree) (o : Part BinaryOp) (t : ExprTree) (ws : List Word) → Says item t ws → Says (g.chain item o) t ws
-  chain_one item o t ws h = (t, map plain ws, [], sym (append-nil (map plain ws)), h, ([], [], [], refl, refl, (refl, refl)))
+  chain_one item o t ws h = (t, map plain_token ws, [], sym (append-nil (map plain_token ws)), h, ([], [], [], refl, refl, (refl, refl)))
 
   all_more : {A : Type 0} (p : Part A) (items : List A) (a : A) (x y : List Token) → SpellsAll p items x → p.Spells a y → SpellsAll p (items ++ a ∷ []) (x ++ y)
   all_more p [] a x y h k = (y, [], rw h (sym (append-nil y)), k, refl)
@@ -67,7 +67,7 @@ module _ (edition : Edition) where
       )
 
   operator_says : (f : Sign → Option BinaryOp) (o : BinaryOp) → f (sign_of o) ≡ Some o → Says (w.operator f) o (word.Sign (sign_of o) ∷ [])
-  operator_says f o fits = (plain (word.Sign (sign_of o)), refl, fits)
+  operator_says f o fits = (plain_token (word.Sign (sign_of o)), refl, fits)
 
   -- the words of a node without parentheses around it
   abbrev pub own_words : BinaryOp → ExprTree → ExprTree → List Word
@@ -78,32 +78,32 @@ module _ (edition : Edition) where
 
   more : (item : Part ExprTree) (f : Sign → Option BinaryOp) (o : BinaryOp) (a b : ExprTree) → f (sign_of o) ≡ Some o → Says (g.chain item (w.operator f)) (bare_expr a) (expr_words a (left_level_of o)) → Says item (bare_expr b) (expr_words b (level_of o + 1)) → Says (g.chain item (w.operator f)) (joined o a b) (own_words o a b)
   more item f o a b fits ha hb =
-      let x = map plain (expr_words a (left_level_of o)) in
-      let z = map plain (expr_words b (level_of o + 1)) in
-      subst (λ ts. (g.chain item (w.operator f)).Spells (joined o a b) ts) (sym (map-append plain (expr_words a (left_level_of o)) (word.Sign (sign_of o) ∷ expr_words b (level_of o + 1))))
-      (subst (λ at. (g.chain item (w.operator f)).Spells (e.Binary at o (bare_expr a) (bare_expr b)) (x ++ (plain (word.Sign (sign_of o)) ∷ z))) (place_bare a)
-      (chain_more item (w.operator f) (bare_expr a) o (bare_expr b) x (plain (word.Sign (sign_of o)) ∷ []) z ha (operator_says f o fits) hb))
+      let x = map plain_token (expr_words a (left_level_of o)) in
+      let z = map plain_token (expr_words b (level_of o + 1)) in
+      subst (λ ts. (g.chain item (w.operator f)).Spells (joined o a b) ts) (sym (map-append plain_token (expr_words a (left_level_of o)) (word.Sign (sign_of o) ∷ expr_words b (level_of o + 1))))
+      (subst (λ at. (g.chain item (w.operator f)).Spells (e.Binary at o (bare_expr a) (bare_expr b)) (x ++ (plain_token (word.Sign (sign_of o)) ∷ z))) (place_bare a)
+      (chain_more item (w.operator f) (bare_expr a) o (bare_expr b) x (plain_token (word.Sign (sign_of o)) ∷ []) z ha (operator_says f o fits) hb))
 
   compare : (u : Part ExprTree) (o : BinaryOp) (a b : ExprTree) → w.comparison_op (sign_of o) ≡ Some o → Says (g.sum edition u) (bare_expr a) (expr_words a (left_level_of o)) → Says (g.sum edition u) (bare_expr b) (expr_words b (level_of o + 1)) → Says (g.comparison edition u) (joined o a b) (own_words o a b)
   compare u o a b fits ha hb =
-      let z = map plain (expr_words b (level_of o + 1)) in (
+      let z = map plain_token (expr_words b (level_of o + 1)) in (
         bare_expr a,
-        map plain (expr_words a (left_level_of o)),
+        map plain_token (expr_words a (left_level_of o)),
         _,
-        map-append plain (expr_words a (left_level_of o)) (word.Sign (sign_of o) ∷ expr_words b (level_of o + 1)),
+        map-append plain_token (expr_words a (left_level_of o)) (word.Sign (sign_of o) ∷ expr_words b (level_of o + 1)),
         ha,
         (
           Some (o, bare_expr b),
-          plain (word.Sign (sign_of o)) ∷ z,
+          plain_token (word.Sign (sign_of o)) ∷ z,
           [],
-          sym (append-nil (plain (word.Sign (sign_of o)) ∷ z)),
-          (o, plain (word.Sign (sign_of o)) ∷ [], z, refl, operator_says w.comparison_op o fits, (bare_expr b, z, [], sym (append-nil z), hb, (refl, refl))),
+          sym (append-nil (plain_token (word.Sign (sign_of o)) ∷ z)),
+          (o, plain_token (word.Sign (sign_of o)) ∷ [], z, refl, operator_says w.comparison_op o fits, (bare_expr b, z, [], sym (append-nil z), hb, (refl, refl))),
           (ap (λ at. e.Binary at o (bare_expr a) (bare_expr b)) (sym (place_bare a)), refl),
         ),
       )
 
   one_sum : (u : Part ExprTree) (t : ExprTree) (ws : List Word) → Says (g.sum edition u) t ws → Says (g.comparison edition u) t ws
-  one_sum u t ws h = (t, map plain ws, [], sym (append-nil (map plain ws)), h, (None, [], [], refl, refl, (refl, refl)))
+  one_sum u t ws h = (t, map plain_token ws, [], sym (append-nil (map plain_token ws)), h, (None, [], [], refl, refl, (refl, refl)))
 
   -- ---- the levels
 

@@ -17,18 +17,18 @@ use Rattle.mace_grammar.specs.Fits.{IsName, Each, IfThere, ExprFits, EndFits}
 use Rattle.std.specs.Prelude.{codes}
 use Rattle.std.specs.Option.{option_map}
 use Rattle.mace_grammar.specs.Grammar as g
-use Rattle.mace_grammar.specs.Spelled.{plain}
-use Rattle.mace_printer.specs.Canon.{whole_words, index_words, listed, call_words, maybe_words, stmt_words}
+use Rattle.mace_grammar.specs.Spelled.{plain_token}
+use Rattle.mace_printer.specs.Canon.{whole_words, index_words, listed_words, call_words, maybe_words, stmt_words}
 use Rattle.mace_printer.proofs.Says.{Says, key_says, sign_says, named, name_says, text_says, field_says, leave_says, finish_says}
 use Rattle.mace_printer.proofs.ExprSays.{expr_says, any_key_says, any_arguments_say}
 
 -- words in brackets, and then more words
-pub bracket_split : (a b : Word) (inner rest : List Word) → map plain (a ∷ (inner ++ (b ∷ rest))) ≡ map plain (a ∷ (inner ++ (b ∷ []))) ++ map plain rest
+pub bracket_split : (a b : Word) (inner rest : List Word) → map plain_token (a ∷ (inner ++ (b ∷ rest))) ≡ map plain_token (a ∷ (inner ++ (b ∷ []))) ++ map plain_token rest
 bracket_split a b inner rest =
-    ap (λ l. plain a ∷ l)
-    (map-append plain inner (b ∷ rest)
-    ∙ sym (append_assoc (map plain inner) (plain b ∷ []) (map plain rest))
-    ∙ ap (λ l. l ++ map plain rest) (sym (map-append plain inner (b ∷ []))))
+    ap (λ l. plain_token a ∷ l)
+    (map-append plain_token inner (b ∷ rest)
+    ∙ sym (append_assoc (map plain_token inner) (plain_token b ∷ []) (map plain_token rest))
+    ∙ ap (λ l. l ++ map plain_token rest) (sym (map-append plain_token inner (b ∷ []))))
 
 abbrev pub semicolon : List Word
 semicolon = word.Sign s.Semicolon ∷ []
@@ -37,7 +37,7 @@ pub semicolon_says : Says (w.sign s.Semicolon) nowhere semicolon
 semicolon_says = sign_says s.Semicolon
 
 abbrev paren_words : List ExprTree → List Word
-paren_words args = word.Sign s.LeftParen ∷ (listed whole_words args ++ (word.Sign s.RightParen ∷ []))
+paren_words args = word.Sign s.LeftParen ∷ (listed_words whole_words args ++ (word.Sign s.RightParen ∷ []))
 
 module _ (edition : Edition) where
   -- ---- statements without a block
@@ -45,29 +45,29 @@ module _ (edition : Edition) where
   pub let_says : (at : Span) (x : Name) (value : ExprTree) → IsName edition x.text → ExprFits edition value → Says (g.let_stmt edition) (bare_stmt (st.Let at x value)) (stmt_words (st.Let at x value))
   let_says at x value i f = (
     nowhere,
-    plain (word.Key k.Let) ∷ [],
+    plain_token (word.Key k.Let) ∷ [],
     _,
     refl,
     key_says k.Let,
     (
       named x.text,
-      plain (word.Name x.text) ∷ [],
+      plain_token (word.Name x.text) ∷ [],
       _,
       refl,
       name_says edition x.text i,
       (
         nowhere,
-        plain (word.Sign s.Equals) ∷ [],
+        plain_token (word.Sign s.Equals) ∷ [],
         _,
         refl,
         sign_says s.Equals,
         (
           bare_expr value,
-          map plain (whole_words value),
+          map plain_token (whole_words value),
           _,
-          map-append plain (whole_words value) semicolon,
+          map-append plain_token (whole_words value) semicolon,
           expr_says edition value f,
-          (nowhere, map plain semicolon, [], refl, semicolon_says, (refl, refl)),
+          (nowhere, map plain_token semicolon, [], refl, semicolon_says, (refl, refl)),
         ),
       ),
     ),
@@ -76,46 +76,46 @@ module _ (edition : Edition) where
   pub require_says : (at : Span) (test : ExprTree) → ExprFits edition test → Says (g.require_stmt edition) (bare_stmt (st.Require at test)) (stmt_words (st.Require at test))
   require_says at test f = (
     nowhere,
-    plain (word.Key k.Require) ∷ [],
+    plain_token (word.Key k.Require) ∷ [],
     _,
     refl,
     key_says k.Require,
     (
       bare_expr test,
-      map plain (whole_words test),
+      map plain_token (whole_words test),
       _,
-      map-append plain (whole_words test) semicolon,
+      map-append plain_token (whole_words test) semicolon,
       expr_says edition test f,
-      (nowhere, map plain semicolon, [], refl, semicolon_says, (refl, refl)),
+      (nowhere, map plain_token semicolon, [], refl, semicolon_says, (refl, refl)),
     ),
   )
 
   pub send_says : (at : Span) (label : List ℕ) (value : ExprTree) → ExprFits edition value → Says (g.send_stmt edition) (bare_stmt (st.Send at label value)) (stmt_words (st.Send at label value))
   send_says at label value f = (
     nowhere,
-    plain (word.Key k.Send) ∷ [],
+    plain_token (word.Key k.Send) ∷ [],
     _,
     refl,
     key_says k.Send,
     (
       label,
-      plain (word.Text label) ∷ [],
+      plain_token (word.Text label) ∷ [],
       _,
       refl,
       text_says label,
       (
         nowhere,
-        plain (word.Sign s.Comma) ∷ [],
+        plain_token (word.Sign s.Comma) ∷ [],
         _,
         refl,
         sign_says s.Comma,
         (
           bare_expr value,
-          map plain (whole_words value),
+          map plain_token (whole_words value),
           _,
-          map-append plain (whole_words value) semicolon,
+          map-append plain_token (whole_words value) semicolon,
           expr_says edition value f,
-          (nowhere, map plain semicolon, [], refl, semicolon_says, (refl, refl)),
+          (nowhere, map plain_token semicolon, [], refl, semicolon_says, (refl, refl)),
         ),
       ),
     ),
@@ -124,23 +124,23 @@ module _ (edition : Edition) where
   pub spawn_says : (at : Span) (event : List ℕ) (args : List ExprTree) → IsName edition event → Each (ExprFits edition) args → Says (g.spawn_stmt edition) (bare_stmt (st.Spawn at event args)) (stmt_words (st.Spawn at event args))
   spawn_says at event args i f = (
     nowhere,
-    plain (word.Key k.Spawn) ∷ [],
+    plain_token (word.Key k.Spawn) ∷ [],
     _,
     refl,
     key_says k.Spawn,
     (
       named event,
-      plain (word.Name event) ∷ [],
+      plain_token (word.Name event) ∷ [],
       _,
       refl,
       name_says edition event i,
       (
         map bare_expr args,
-        map plain (paren_words args),
+        map plain_token (paren_words args),
         _,
-        map-append plain (paren_words args) semicolon,
+        map-append plain_token (paren_words args) semicolon,
         any_arguments_say edition args f,
-        (nowhere, map plain semicolon, [], refl, semicolon_says, (refl, refl)),
+        (nowhere, map plain_token semicolon, [], refl, semicolon_says, (refl, refl)),
       ),
     ),
   )
@@ -148,46 +148,46 @@ module _ (edition : Edition) where
   pub call_says : (at : Span) (f : List ℕ) (args : List ExprTree) → IsName edition f → Each (ExprFits edition) args → Says (g.call_stmt edition) (bare_stmt (st.Call at f args)) (stmt_words (st.Call at f args))
   call_says at f args i k = (
     named f,
-    plain (word.Name f) ∷ [],
+    plain_token (word.Name f) ∷ [],
     _,
     refl,
     name_says edition f i,
     (
       map bare_expr args,
-      map plain (paren_words args),
+      map plain_token (paren_words args),
       _,
-      map-append plain (paren_words args) semicolon,
+      map-append plain_token (paren_words args) semicolon,
       any_arguments_say edition args k,
-      (nowhere, map plain semicolon, [], refl, semicolon_says, (refl, refl)),
+      (nowhere, map plain_token semicolon, [], refl, semicolon_says, (refl, refl)),
     ),
   )
 
   pub child_says : (at : Span) (c : List ℕ) (place : ExprTree) (f : List ℕ) (args : List ExprTree) → IsName edition c → ExprFits edition place → IsName edition f → Each (ExprFits edition) args → Says (g.child_call_stmt edition) (bare_stmt (st.ChildCall at c place f args)) (stmt_words (st.ChildCall at c place f args))
   child_says at c place f args i p j k = (
     named c,
-    plain (word.Name c) ∷ [],
+    plain_token (word.Name c) ∷ [],
     _,
     refl,
     name_says edition c i,
     (
       bare_expr place,
-      map plain (index_words place),
+      map plain_token (index_words place),
       _,
-      map-append plain (index_words place) (word.Sign s.Dot ∷ (call_words f args ++ semicolon)),
+      map-append plain_token (index_words place) (word.Sign s.Dot ∷ (call_words f args ++ semicolon)),
       any_key_says edition place p,
       (
         named f,
-        map plain (word.Sign s.Dot ∷ word.Name f ∷ []),
+        map plain_token (word.Sign s.Dot ∷ word.Name f ∷ []),
         _,
         refl,
         field_says edition f j,
         (
           map bare_expr args,
-          map plain (paren_words args),
+          map plain_token (paren_words args),
           _,
-          map-append plain (paren_words args) semicolon,
+          map-append plain_token (paren_words args) semicolon,
           any_arguments_say edition args k,
-          (nowhere, map plain semicolon, [], refl, semicolon_says, (refl, refl)),
+          (nowhere, map plain_token semicolon, [], refl, semicolon_says, (refl, refl)),
         ),
       ),
     ),
@@ -202,33 +202,33 @@ module _ (edition : Edition) where
   pub return_says : (at : Span) (value : Option ExprTree) → EndFits edition value → Says (g.return_stmt edition) (bare_stmt (st.Return at value)) (stmt_words (st.Return at value))
   return_says at value f = (
     nowhere,
-    plain (word.Key k.Return) ∷ [],
+    plain_token (word.Key k.Return) ∷ [],
     _,
     refl,
     leave_says edition f.0,
     (
       option_map bare_expr value,
-      map plain (maybe_words value),
+      map plain_token (maybe_words value),
       _,
-      map-append plain (maybe_words value) semicolon,
+      map-append plain_token (maybe_words value) semicolon,
       maybe_says value f.1,
-      (nowhere, map plain semicolon, [], refl, semicolon_says, (refl, refl)),
+      (nowhere, map plain_token semicolon, [], refl, semicolon_says, (refl, refl)),
     ),
   )
 
   pub finish_stmt_says : (at : Span) (value : Option ExprTree) → EndFits edition value → Says (g.finish_stmt edition) (bare_stmt (st.Finish at value)) (stmt_words (st.Finish at value))
   finish_stmt_says at value f = (
     nowhere,
-    plain (word.Name (codes "finish")) ∷ [],
+    plain_token (word.Name (codes "finish")) ∷ [],
     _,
     refl,
     finish_says edition f.0,
     (
       option_map bare_expr value,
-      map plain (maybe_words value),
+      map plain_token (maybe_words value),
       _,
-      map-append plain (maybe_words value) semicolon,
+      map-append plain_token (maybe_words value) semicolon,
       maybe_says value f.1,
-      (nowhere, map plain semicolon, [], refl, semicolon_says, (refl, refl)),
+      (nowhere, map plain_token semicolon, [], refl, semicolon_says, (refl, refl)),
     ),
   )

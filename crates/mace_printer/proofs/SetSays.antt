@@ -14,7 +14,7 @@ use Rattle.mace_ast.specs.Stmts.{bare_stmt}
 use Rattle.mace_grammar.specs.Words.{Edition}
 use Rattle.mace_grammar.specs.Fits.{IsName, IfThere, ExprFits}
 use Rattle.mace_grammar.specs.Grammar as g
-use Rattle.mace_grammar.specs.Spelled.{plain}
+use Rattle.mace_grammar.specs.Spelled.{plain_token}
 use Rattle.mace_printer.specs.Canon.{whole_words, index_words, stmt_words}
 use Rattle.mace_printer.proofs.Says.{Says, key_says, sign_says, named, name_says, field_says}
 use Rattle.mace_printer.proofs.ExprSays.{expr_says, any_key_says}
@@ -27,13 +27,13 @@ module _ (edition : Edition) where
   pub drop_says : (at : Span) (above : Option (List ℕ)) (x : List ℕ) (place : ExprTree) → IfThere (IsName edition) above → IsName edition x → ExprFits edition place → Says (g.drop_stmt edition) (bare_stmt (st.Cut at (target_of above x) place)) (stmt_words (st.Cut at (target_of above x) place))
   drop_says at None x place i j f = (
     nowhere,
-    plain (word.Key k.Drop) ∷ [],
+    plain_token (word.Key k.Drop) ∷ [],
     _,
     refl,
     key_says k.Drop,
     (
       named x,
-      plain (word.Name x) ∷ [],
+      plain_token (word.Name x) ∷ [],
       _,
       refl,
       name_says edition x j,
@@ -45,40 +45,40 @@ module _ (edition : Edition) where
         refl,
         (
           bare_expr place,
-          map plain (index_words place),
+          map plain_token (index_words place),
           _,
-          map-append plain (index_words place) semicolon,
+          map-append plain_token (index_words place) semicolon,
           any_key_says edition place f,
-          (nowhere, map plain semicolon, [], refl, semicolon_says, (refl, refl)),
+          (nowhere, map plain_token semicolon, [], refl, semicolon_says, (refl, refl)),
         ),
       ),
     ),
   )
   drop_says at (Some c) x place i j f = (
     nowhere,
-    plain (word.Key k.Drop) ∷ [],
+    plain_token (word.Key k.Drop) ∷ [],
     _,
     refl,
     key_says k.Drop,
     (
       named c,
-      plain (word.Name c) ∷ [],
+      plain_token (word.Name c) ∷ [],
       _,
       refl,
       name_says edition c i,
       (
         Some (named x),
-        map plain (word.Sign s.Dot ∷ word.Name x ∷ []),
+        map plain_token (word.Sign s.Dot ∷ word.Name x ∷ []),
         _,
         refl,
         field_says edition x j,
         (
           bare_expr place,
-          map plain (index_words place),
+          map plain_token (index_words place),
           _,
-          map-append plain (index_words place) semicolon,
+          map-append plain_token (index_words place) semicolon,
           any_key_says edition place f,
-          (nowhere, map plain semicolon, [], refl, semicolon_says, (refl, refl)),
+          (nowhere, map plain_token semicolon, [], refl, semicolon_says, (refl, refl)),
         ),
       ),
     ),
@@ -92,7 +92,7 @@ module _ (edition : Edition) where
   pub set_says : (at : Span) (above : Option (List ℕ)) (x : List ℕ) (place : Option ExprTree) (value : ExprTree) → IfThere (IsName edition) above → IsName edition x → IfThere (ExprFits edition) place → ExprFits edition value → Says (g.set_stmt edition) (bare_stmt (st.Set at (target_of above x) place value)) (stmt_words (st.Set at (target_of above x) place value))
   set_says at None x None value i j p f = (
     named x,
-    plain (word.Name x) ∷ [],
+    plain_token (word.Name x) ∷ [],
     _,
     refl,
     name_says edition x j,
@@ -110,17 +110,17 @@ module _ (edition : Edition) where
         refl,
         (
           nowhere,
-          plain (word.Sign s.Equals) ∷ [],
+          plain_token (word.Sign s.Equals) ∷ [],
           _,
           refl,
           sign_says s.Equals,
           (
             bare_expr value,
-            map plain (whole_words value),
+            map plain_token (whole_words value),
             _,
-            map-append plain (whole_words value) semicolon,
+            map-append plain_token (whole_words value) semicolon,
             expr_says edition value f,
-            (nowhere, map plain semicolon, [], refl, semicolon_says, (refl, refl)),
+            (nowhere, map plain_token semicolon, [], refl, semicolon_says, (refl, refl)),
           ),
         ),
       ),
@@ -128,7 +128,7 @@ module _ (edition : Edition) where
   )
   set_says at None x (Some place) value i j p f = (
     named x,
-    plain (word.Name x) ∷ [],
+    plain_token (word.Name x) ∷ [],
     _,
     refl,
     name_says edition x j,
@@ -140,23 +140,23 @@ module _ (edition : Edition) where
       refl,
       (
         Some (bare_expr place),
-        map plain (index_words place),
+        map plain_token (index_words place),
         _,
-        map-append plain (index_words place) (assigned value),
+        map-append plain_token (index_words place) (assigned value),
         any_key_says edition place p,
         (
           nowhere,
-          plain (word.Sign s.Equals) ∷ [],
+          plain_token (word.Sign s.Equals) ∷ [],
           _,
           refl,
           sign_says s.Equals,
           (
             bare_expr value,
-            map plain (whole_words value),
+            map plain_token (whole_words value),
             _,
-            map-append plain (whole_words value) semicolon,
+            map-append plain_token (whole_words value) semicolon,
             expr_says edition value f,
-            (nowhere, map plain semicolon, [], refl, semicolon_says, (refl, refl)),
+            (nowhere, map plain_token semicolon, [], refl, semicolon_says, (refl, refl)),
           ),
         ),
       ),
@@ -164,13 +164,13 @@ module _ (edition : Edition) where
   )
   set_says at (Some c) x None value i j p f = (
     named c,
-    plain (word.Name c) ∷ [],
+    plain_token (word.Name c) ∷ [],
     _,
     refl,
     name_says edition c i,
     (
       Some (named x),
-      map plain (word.Sign s.Dot ∷ word.Name x ∷ []),
+      map plain_token (word.Sign s.Dot ∷ word.Name x ∷ []),
       _,
       refl,
       field_says edition x j,
@@ -182,17 +182,17 @@ module _ (edition : Edition) where
         refl,
         (
           nowhere,
-          plain (word.Sign s.Equals) ∷ [],
+          plain_token (word.Sign s.Equals) ∷ [],
           _,
           refl,
           sign_says s.Equals,
           (
             bare_expr value,
-            map plain (whole_words value),
+            map plain_token (whole_words value),
             _,
-            map-append plain (whole_words value) semicolon,
+            map-append plain_token (whole_words value) semicolon,
             expr_says edition value f,
-            (nowhere, map plain semicolon, [], refl, semicolon_says, (refl, refl)),
+            (nowhere, map plain_token semicolon, [], refl, semicolon_says, (refl, refl)),
           ),
         ),
       ),
@@ -200,35 +200,35 @@ module _ (edition : Edition) where
   )
   set_says at (Some c) x (Some place) value i j p f = (
     named c,
-    plain (word.Name c) ∷ [],
+    plain_token (word.Name c) ∷ [],
     _,
     refl,
     name_says edition c i,
     (
       Some (named x),
-      map plain (word.Sign s.Dot ∷ word.Name x ∷ []),
+      map plain_token (word.Sign s.Dot ∷ word.Name x ∷ []),
       _,
       refl,
       field_says edition x j,
       (
         Some (bare_expr place),
-        map plain (index_words place),
+        map plain_token (index_words place),
         _,
-        map-append plain (index_words place) (assigned value),
+        map-append plain_token (index_words place) (assigned value),
         any_key_says edition place p,
         (
           nowhere,
-          plain (word.Sign s.Equals) ∷ [],
+          plain_token (word.Sign s.Equals) ∷ [],
           _,
           refl,
           sign_says s.Equals,
           (
             bare_expr value,
-            map plain (whole_words value),
+            map plain_token (whole_words value),
             _,
-            map-append plain (whole_words value) semicolon,
+            map-append plain_token (whole_words value) semicolon,
             expr_says edition value f,
-            (nowhere, map plain semicolon, [], refl, semicolon_says, (refl, refl)),
+            (nowhere, map plain_token semicolon, [], refl, semicolon_says, (refl, refl)),
           ),
         ),
       ),

@@ -11,7 +11,7 @@ use Rattle.mace_ast.specs.Exprs.{ExprTree, ExprTrees, no_exprs, expr_and, bare_e
 use Rattle.mace_ast.specs.Stmts as st
 use Rattle.mace_ast.specs.Stmts.{StmtTree, StmtTrees, ElseTree, no_stmts, stmt_and, no_else, otherwise, bare_stmt, bare_stmts, bare_else}
 use Rattle.mace_ast.specs.Decls.{LastTree, MethodTree, PhaseTree, EventTree, ContextTree, ContextTrees, Context, no_contexts, context_and, ServiceTree, bare_var, bare_param, bare_last, bare_method, bare_phase, bare_event, bare_context, bare_contexts, bare_service}
-use Rattle.mace_grammar.specs.Spelled.{plain, Spelled}
+use Rattle.mace_grammar.specs.Spelled.{plain_token, Spelled}
 use Rattle.mace_printer.specs.Canon as c
 use Rattle.mace_printer.specs.Canon.{expr_words, args_words, more_words, whole_words, level_of, left_level_of}
 use Rattle.mace_printer.proofs.Least.{service_least}
@@ -40,11 +40,11 @@ mutual
   more_bare (expr_and x a) = rw (bare_words x 0, more_bare a) refl
 
 module _ {A : Type 0} (f : A → A) (words : A → List Word) (same : (a : A) → words (f a) ≡ words a) where
-  further_bare : (xs : List A) → c.further words (map f xs) ≡ c.further words xs
+  further_bare : (xs : List A) → c.further_words words (map f xs) ≡ c.further_words words xs
   further_bare [] = refl
   further_bare (x ∷ xs) = λ i. word.Sign s.Comma ∷ (same x i ++ further_bare xs i)
 
-  listed_bare : (xs : List A) → c.listed words (map f xs) ≡ c.listed words xs
+  listed_bare : (xs : List A) → c.listed_words words (map f xs) ≡ c.listed_words words xs
   listed_bare [] = refl
   listed_bare (x ∷ xs) = λ i. same x i ++ further_bare xs i
 
@@ -55,7 +55,7 @@ module _ {A : Type 0} (f : A → A) (words : A → List Word) (same : (a : A) �
 whole_bare : (t : ExprTree) → whole_words (bare_expr t) ≡ whole_words t
 whole_bare t = bare_words t 0
 
-given_bare : (xs : List ExprTree) → c.listed whole_words (map bare_expr xs) ≡ c.listed whole_words xs
+given_bare : (xs : List ExprTree) → c.listed_words whole_words (map bare_expr xs) ≡ c.listed_words whole_words xs
 given_bare = listed_bare bare_expr whole_words whole_bare
 
 index_bare : (place : Option ExprTree) → c.maybe_index (option_map bare_expr place) ≡ c.maybe_index place
@@ -93,7 +93,7 @@ mutual
 body_bare : (xs : List StmtTree) → c.body_words (map bare_stmt xs) ≡ c.body_words xs
 body_bare = all_bare bare_stmt c.stmt_words stmt_bare
 
-params_bare : (ps : List Param) → c.listed c.param_words (map bare_param ps) ≡ c.listed c.param_words ps
+params_bare : (ps : List Param) → c.listed_words c.param_words (map bare_param ps) ≡ c.listed_words c.param_words ps
 params_bare = listed_bare bare_param c.param_words (λ p. refl)
 
 last_bare : (want : Keyword) (l : Option LastTree) → c.last_words want (option_map bare_last l) ≡ c.last_words want l
@@ -126,13 +126,13 @@ unfolding c.service_words
 service_bare t =
     rw (all_bare bare_var c.var_words (λ v. refl) t.vars, all_bare bare_context c.context_words context_bare t.contexts, all_bare bare_method c.method_words method_bare t.methods, all_bare bare_event c.event_words event_bare t.events) refl
 
-length_plain : (ws : List Word) → length (map plain ws) ≡ length ws
+length_plain : (ws : List Word) → length (map plain_token ws) ≡ length ws
 length_plain [] = refl
 length_plain (v ∷ ws) = ap suc (length_plain ws)
 
 -- no fewer words spell a service
 pub shortest : (t : ServiceTree) (ws : List Word) → Spelled t ws → length (c.service_words t) ≤ length ws
-shortest t ws h = omega (arith, service_least (bare_service t) (map plain ws) h, ap length (service_bare t), length_plain ws)
+shortest t ws h = omega (arith, service_least (bare_service t) (map plain_token ws) h, ap length (service_bare t), length_plain ws)
 
 -- without a pair of words that stands in it, what is left doesn't spell it
 pub pairs_needed : (t : ServiceTree) (front inner back : List Word) (v x : Word) → c.service_words t ≡ front ++ v ∷ (inner ++ x ∷ back) → Spelled t (front ++ (inner ++ back)) → ⊥

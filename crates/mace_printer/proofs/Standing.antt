@@ -22,7 +22,7 @@ use Rattle.mace_lexer.specs.declared.token.Word.{Word}
 use Rattle.mace_lexer.specs.declared.token.Word.TheVariants as word
 use Rattle.mace_lexer.specs.Words.{with_digit, value_of, greatest, keyword, keyword_bytes, sign, sign_bytes}
 use Rattle.mace_lexer.specs.Texts.{inside_of, is_byte}
-use Rattle.wave_base.specs.Text.{escaped, quoted}
+use Rattle.wave_base.specs.Text.{escaped_text, quoted_text}
 use Rattle.mace_lexer.specs.Pieces.{Spell, IsPiece, IsLongest}
 use Rattle.mace_lexer.specs.Cuts.{Cuts, at_end, past}
 use Rattle.mace_lexer.specs.inner.Fronts.{form_by, form_of, IsBody}
@@ -206,15 +206,15 @@ module _ (bs : List ℕ) (b : ℕ) (rest : List ℕ) where
   numbered w h g piece = longest_by followed (length bs) (Spell w) form.Number (number_text bs (b ∷ rest) h) (some_number bs h) within (subst (λ l. IsPiece (Spell w) l) (sym front) piece)
       (λ m lt le e. no_gap is_ascii_digit bs b rest m g lt (number_all (take m followed) e))
 
-quoted_longest : (t : List ℕ) (b : ℕ) (rest : List ℕ) → All IsPrintable t → length t ≤ 200 → IsLongest (quoted t ++ b ∷ rest) (length (quoted t)) (Spell (word.Text t))
+quoted_longest : (t : List ℕ) (b : ℕ) (rest : List ℕ) → All IsPrintable t → length t ≤ 200 → IsLongest (quoted_text t ++ b ∷ rest) (length (quoted_text t)) (Spell (word.Text t))
 quoted_longest t b rest printable short =
-    let E = escaped t in
+    let E = escaped_text t in
     let tail : List ℕ = 34 ∷ b ∷ rest in
-    let text = quoted t ++ b ∷ rest in
+    let text = quoted_text t ++ b ∷ rest in
     let n = suc (length E) in
     let whole : text ≡ 34 ∷ (E ++ tail) = ap (λ l. 34 ∷ l) (append_assoc E (34 ∷ []) (b ∷ rest)) in
     let behind : drop n text ≡ tail = ap (drop n) whole ∙ drop-append_seam E tail in
-    let size : length (quoted t) ≡ n + 1 = omega (arith, length-append E (34 ∷ [])) in
+    let size : length (quoted_text t) ≡ n + 1 = omega (arith, length-append E (34 ∷ [])) in
     let body : IsBody text t n = record {
       split = whole ∙ ap (λ l. 34 ∷ (E ++ l)) (sym behind);
       printable = printable;

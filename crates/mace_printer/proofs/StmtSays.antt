@@ -10,12 +10,12 @@ use Rattle.mace_ast.specs.declared.name.Name.{Name}
 use Rattle.mace_ast.specs.Exprs.{ExprTree, bare_expr, nowhere}
 use Rattle.mace_ast.specs.Stmts as st
 use Rattle.mace_ast.specs.Stmts.{StmtTree, StmtTrees, ElseTree, no_stmts, stmt_and, no_else, otherwise, stmts_of, else_of, bare_stmt, bare_stmts, bare_else}
-use Rattle.mace_grammar.specs.Part.{Part, ◌>>◌, many, maybe, nested}
+use Rattle.mace_grammar.specs.Part.{Part, ◌>>◌, many, maybe, nested_part}
 use Rattle.mace_grammar.specs.Words as w
 use Rattle.mace_grammar.specs.Words.{Edition}
 use Rattle.mace_grammar.specs.Fits.{IsName, Each, ExprFits, StmtFits, StmtsFit, ElseFits}
 use Rattle.mace_grammar.specs.Grammar as g
-use Rattle.mace_grammar.specs.Spelled.{plain}
+use Rattle.mace_grammar.specs.Spelled.{plain_token}
 use Rattle.mace_printer.specs.Canon.{whole_words, stmt_words, stmts_words, else_words, body_words, braced_words}
 use Rattle.mace_printer.proofs.Says.{Says, key_says, sign_says, named, name_says, all_say}
 use Rattle.mace_printer.proofs.ExprSays.{expr_says}
@@ -52,17 +52,17 @@ module _ (edition : Edition) where
     block_says : (xs : StmtTrees) → all_spell xs → Says (g.block edition stmt) (list_of (bare_stmts xs)) (in_braces xs)
     block_says xs h = (
       nowhere,
-      plain (word.Sign s.LeftBrace) ∷ [],
+      plain_token (word.Sign s.LeftBrace) ∷ [],
       _,
       refl,
       sign_says s.LeftBrace,
       (
         list_of (bare_stmts xs),
-        map plain (stmts_words xs),
+        map plain_token (stmts_words xs),
         _,
-        map-append plain (stmts_words xs) (word.Sign s.RightBrace ∷ []),
+        map-append plain_token (stmts_words xs) (word.Sign s.RightBrace ∷ []),
         h,
-        (nowhere, plain (word.Sign s.RightBrace) ∷ [], [], refl, sign_says s.RightBrace, (refl, refl)),
+        (nowhere, plain_token (word.Sign s.RightBrace) ∷ [], [], refl, sign_says s.RightBrace, (refl, refl)),
       ),
     )
 
@@ -72,32 +72,32 @@ module _ (edition : Edition) where
 
     else_says : (o : ElseTree) → else_spells o → Says (maybe (w.key k.Else >> (g.block edition) stmt)) (else_list (bare_else o)) (else_words o)
     else_says no_else h = refl
-    else_says (otherwise xs) h = (nowhere, plain (word.Key k.Else) ∷ [], _, refl, key_says k.Else, block_says xs h)
+    else_says (otherwise xs) h = (nowhere, plain_token (word.Key k.Else) ∷ [], _, refl, key_says k.Else, block_says xs h)
 
     if_says : (at : Span) (test : ExprTree) (body : StmtTrees) (other : ElseTree) → all_spell body → else_spells other → ExprFits edition test → Says (g.if_stmt edition stmt) (bare_stmt (st.If at test body other)) (stmt_words (st.If at test body other))
     if_says at test body other hb ho f = (
       nowhere,
-      plain (word.Key k.If) ∷ [],
+      plain_token (word.Key k.If) ∷ [],
       _,
       refl,
       key_says k.If,
       (
         bare_expr test,
-        map plain (whole_words test),
+        map plain_token (whole_words test),
         _,
-        map-append plain (whole_words test) (word.Sign s.LeftBrace ∷ (stmts_words body ++ (word.Sign s.RightBrace ∷ else_words other))),
+        map-append plain_token (whole_words test) (word.Sign s.LeftBrace ∷ (stmts_words body ++ (word.Sign s.RightBrace ∷ else_words other))),
         expr_says edition test f,
         (
           list_of (bare_stmts body),
-          map plain (in_braces body),
+          map plain_token (in_braces body),
           _,
           bracket_split (word.Sign s.LeftBrace) (word.Sign s.RightBrace) (stmts_words body) (else_words other),
           block_says body hb,
           (
             else_list (bare_else other),
-            map plain (else_words other),
+            map plain_token (else_words other),
             [],
-            sym (append-nil (map plain (else_words other))),
+            sym (append-nil (map plain_token (else_words other))),
             else_says other ho,
             (ap (λ b. st.If nowhere (bare_expr test) b (bare_else other)) (sym (list_back (bare_stmts body))) ∙ ap (λ o. st.If nowhere (bare_expr test) (stmts_of (list_of (bare_stmts body))) o) (sym (else_back (bare_else other))), refl),
           ),
@@ -108,21 +108,21 @@ module _ (edition : Edition) where
     while_says : (at : Span) (test : ExprTree) (body : StmtTrees) → all_spell body → ExprFits edition test → Says (g.while_stmt edition stmt) (bare_stmt (st.While at test body)) (stmt_words (st.While at test body))
     while_says at test body hb f = (
       nowhere,
-      plain (word.Key k.While) ∷ [],
+      plain_token (word.Key k.While) ∷ [],
       _,
       refl,
       key_says k.While,
       (
         bare_expr test,
-        map plain (whole_words test),
+        map plain_token (whole_words test),
         _,
-        map-append plain (whole_words test) (in_braces body),
+        map-append plain_token (whole_words test) (in_braces body),
         expr_says edition test f,
         (
           list_of (bare_stmts body),
-          map plain (in_braces body),
+          map plain_token (in_braces body),
           [],
-          sym (append-nil (map plain (in_braces body))),
+          sym (append-nil (map plain_token (in_braces body))),
           block_says body hb,
           (ap (λ b. st.While nowhere (bare_expr test) b) (sym (list_back (bare_stmts body))), refl),
         ),
@@ -132,45 +132,45 @@ module _ (edition : Edition) where
     for_says : (at : Span) (x : Name) (low high : ExprTree) (body : StmtTrees) → all_spell body → IsName edition x.text → ExprFits edition low → ExprFits edition high → Says (g.for_stmt edition stmt) (bare_stmt (st.For at x low high body)) (stmt_words (st.For at x low high body))
     for_says at x low high body hb i f j = (
       nowhere,
-      plain (word.Key k.For) ∷ [],
+      plain_token (word.Key k.For) ∷ [],
       _,
       refl,
       key_says k.For,
       (
         named x.text,
-        plain (word.Name x.text) ∷ [],
+        plain_token (word.Name x.text) ∷ [],
         _,
         refl,
         name_says edition x.text i,
         (
           nowhere,
-          plain (word.Key k.In) ∷ [],
+          plain_token (word.Key k.In) ∷ [],
           _,
           refl,
           key_says k.In,
           (
             bare_expr low,
-            map plain (whole_words low),
+            map plain_token (whole_words low),
             _,
-            map-append plain (whole_words low) (word.Key k.To ∷ (whole_words high ++ in_braces body)),
+            map-append plain_token (whole_words low) (word.Key k.To ∷ (whole_words high ++ in_braces body)),
             expr_says edition low f,
             (
               nowhere,
-              plain (word.Key k.To) ∷ [],
+              plain_token (word.Key k.To) ∷ [],
               _,
               refl,
               key_says k.To,
               (
                 bare_expr high,
-                map plain (whole_words high),
+                map plain_token (whole_words high),
                 _,
-                map-append plain (whole_words high) (in_braces body),
+                map-append plain_token (whole_words high) (in_braces body),
                 expr_says edition high j,
                 (
                   list_of (bare_stmts body),
-                  map plain (in_braces body),
+                  map plain_token (in_braces body),
                   [],
-                  sym (append-nil (map plain (in_braces body))),
+                  sym (append-nil (map plain_token (in_braces body))),
                   block_says body hb,
                   (ap (λ b. st.For nowhere (named x.text) (bare_expr low) (bare_expr high) b) (sym (list_back (bare_stmts body))), refl),
                 ),
@@ -206,7 +206,7 @@ module _ (edition : Edition) where
     else_blocks (otherwise xs) = all_blocks xs
 
   abbrev at_depth : ℕ → Part StmtTree
-  at_depth n = nested (g.any_stmt edition) n
+  at_depth n = nested_part (g.any_stmt edition) n
 
   mutual
     said : (x : StmtTree) (n : ℕ) → blocks x ≤ n → StmtFits edition x → Says (at_depth (suc n)) (bare_stmt x) (stmt_words x)
@@ -229,7 +229,7 @@ module _ (edition : Edition) where
 
     all_said : (xs : StmtTrees) (n : ℕ) → all_blocks xs ≤ n → StmtsFit edition xs → all_spell (at_depth (suc n)) xs
     all_said no_stmts n h f = refl
-    all_said (stmt_and x xs) n h f = (map plain (stmt_words x), _, map-append plain (stmt_words x) (stmts_words xs), said x n (omega arith) f.0, all_said xs n (omega arith) f.1)
+    all_said (stmt_and x xs) n h f = (map plain_token (stmt_words x), _, map-append plain_token (stmt_words x) (stmts_words xs), said x n (omega arith) f.0, all_said xs n (omega arith) f.1)
 
     else_said : (o : ElseTree) (n : ℕ) → else_blocks o ≤ n → ElseFits edition o → else_spells (at_depth (suc n)) o
     else_said no_else n h f = tt
@@ -248,16 +248,16 @@ module _ (edition : Edition) where
   unfolding g.any_block
   any_block_says xs f = (
     nowhere,
-    plain (word.Sign s.LeftBrace) ∷ [],
+    plain_token (word.Sign s.LeftBrace) ∷ [],
     _,
     refl,
     sign_says s.LeftBrace,
     (
       map bare_stmt xs,
-      map plain (body_words xs),
+      map plain_token (body_words xs),
       _,
-      map-append plain (body_words xs) (word.Sign s.RightBrace ∷ []),
+      map-append plain_token (body_words xs) (word.Sign s.RightBrace ∷ []),
       all_say (g.stmt edition) bare_stmt stmt_words (StmtFits edition) stmt_says xs f,
-      (nowhere, plain (word.Sign s.RightBrace) ∷ [], [], refl, sign_says s.RightBrace, (refl, refl)),
+      (nowhere, plain_token (word.Sign s.RightBrace) ∷ [], [], refl, sign_says s.RightBrace, (refl, refl)),
     ),
   )

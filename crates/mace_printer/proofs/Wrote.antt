@@ -10,7 +10,7 @@ use Rattle.mace_lexer.specs.declared.sign.Sign.TheVariants as s
 use Rattle.mace_ast.specs.Exprs.{ExprTree, exprs_of}
 use Rattle.mace_ast.specs.Stmts.{StmtTree, stmts_of}
 use Rattle.mace_ast.specs.Decls.{ContextTree, contexts_of}
-use Rattle.mace_printer.specs.Canon.{all_of, further, listed, sign, whole_words, expr_words, args_words, more_words, stmt_words, stmts_words, context_words, contexts_words}
+use Rattle.mace_printer.specs.Canon.{all_of, further_words, listed_words, sign, whole_words, expr_words, args_words, more_words, stmt_words, stmts_words, context_words, contexts_words}
 use Rattle.mace_printer.specs.inner.Parts.{comma_before}
 use Rattle.mace_printer.specs.Layout.{line_of, layout}
 
@@ -46,19 +46,19 @@ module _ {X Y : Type 0} (ws : X → List Word) (t : Y → X) where
   all_of_both [] zs = refl
   all_of_both (x ∷ xs) zs = ap (λ l. ws x ++ l) (all_of_both xs zs) ∙ sym (append_assoc (ws x) (all_of ws xs) (all_of ws zs))
 
-  further_both : (xs zs : List X) → further ws (xs ++ zs) ≡ further ws xs ++ further ws zs
+  further_both : (xs zs : List X) → further_words ws (xs ++ zs) ≡ further_words ws xs ++ further_words ws zs
   further_both [] zs = refl
-  further_both (x ∷ xs) zs = ap (λ l. word.Sign s.Comma ∷ l) (ap (λ l. ws x ++ l) (further_both xs zs) ∙ sym (append_assoc (ws x) (further ws xs) (further ws zs)))
+  further_both (x ∷ xs) zs = ap (λ l. word.Sign s.Comma ∷ l) (ap (λ l. ws x ++ l) (further_both xs zs) ∙ sym (append_assoc (ws x) (further_words ws xs) (further_words ws zs)))
 
   -- one item more, with a comma where it is not the first
-  listed_more : (i : ℕ) (xs : List X) (x : X) → length xs ≡ i → listed ws (xs ++ x ∷ []) ≡ listed ws xs ++ (comma_before i ++ ws x)
+  listed_more : (i : ℕ) (xs : List X) (x : X) → length xs ≡ i → listed_words ws (xs ++ x ∷ []) ≡ listed_words ws xs ++ (comma_before i ++ ws x)
   listed_more i [] x h = append-nil (ws x) ∙ ap (λ j. comma_before j ++ ws x) h
   listed_more zero (z ∷ xs) x h = absurd (omega (arith, h))
   listed_more (suc i) (z ∷ xs) x h =
       let some : (suc i == 0) ≡ false = ne_eqb (suc i) 0 (λ e. omega (arith, e)) in
-      ap (λ l. ws z ++ l) (further_both xs (x ∷ []) ∙ ap (λ l. further ws xs ++ (word.Sign s.Comma ∷ l)) (append-nil (ws x)))
-      ∙ sym (append_assoc (ws z) (further ws xs) (word.Sign s.Comma ∷ ws x))
-      ∙ ap (λ b. listed ws (z ∷ xs) ++ ((if b then [] else sign s.Comma) ++ ws x)) (sym some)
+      ap (λ l. ws z ++ l) (further_both xs (x ∷ []) ∙ ap (λ l. further_words ws xs ++ (word.Sign s.Comma ∷ l)) (append-nil (ws x)))
+      ∙ sym (append_assoc (ws z) (further_words ws xs) (word.Sign s.Comma ∷ ws x))
+      ∙ ap (λ b. listed_words ws (z ∷ xs) ++ ((if b then [] else sign s.Comma) ++ ws x)) (sym some)
 
   taken : (ys : List Y) (i : ℕ) (y : Y) → i < length ys → y ≡ get_or ys i y → map t (take (i + 1) ys) ≡ map t (take i ys) ++ t y ∷ []
   taken ys i y l at =
@@ -75,9 +75,9 @@ module _ {X Y : Type 0} (ws : X → List Word) (t : Y → X) where
   all_of_turn o ys i y l at h k =
       same_words o (sym (ap (all_of ws) (taken ys i y l at) ∙ all_of_both (map t (take i ys)) (t y ∷ []) ∙ ap (λ l. all_of ws (map t (take i ys)) ++ l) (append-nil (ws (t y))))) (behind o (all_of ws (map t (take i ys))) (ws (t y)) h k)
 
-  pub listed_turn : (o : List ℕ) {a m b : List ℕ} (ys : List Y) (i : ℕ) (y : Y) → i < length ys → y ≡ get_or ys i y → a ≡ o ++ layout (listed ws (map t (take i ys))) → m ≡ a ++ layout (comma_before i) → b ≡ m ++ layout (ws (t y)) → b ≡ o ++ layout (listed ws (map t (take (i + 1) ys)))
+  pub listed_turn : (o : List ℕ) {a m b : List ℕ} (ys : List Y) (i : ℕ) (y : Y) → i < length ys → y ≡ get_or ys i y → a ≡ o ++ layout (listed_words ws (map t (take i ys))) → m ≡ a ++ layout (comma_before i) → b ≡ m ++ layout (ws (t y)) → b ≡ o ++ layout (listed_words ws (map t (take (i + 1) ys)))
   listed_turn o ys i y l at h c k =
-      same_words o (sym (ap (listed ws) (taken ys i y l at) ∙ listed_more i (map t (take i ys)) (t y) (size ys i (omega (arith, l))))) (behind o (listed ws (map t (take i ys))) (comma_before i ++ ws (t y)) h (behind _ (comma_before i) (ws (t y)) c k))
+      same_words o (sym (ap (listed_words ws) (taken ys i y l at) ∙ listed_more i (map t (take i ys)) (t y) (size ys i (omega (arith, l))))) (behind o (listed_words ws (map t (take i ys))) (comma_before i ++ ws (t y)) h (behind _ (comma_before i) (ws (t y)) c k))
 
   pub all_of_end : (o : List ℕ) {b : List ℕ} (ys : List Y) (i : ℕ) → length ys ≤ i → b ≡ o ++ layout (all_of ws (map t (take i ys))) → b ≡ o ++ layout (all_of ws (map t ys))
   all_of_end o ys i l h = same_words o (ap (λ z. all_of ws (map t z)) (take_all i ys l)) h
@@ -86,11 +86,11 @@ module _ {X Y : Type 0} (ws : X → List Word) (t : Y → X) where
 
 -- ---- lists of trees, as their mutual forms
 
-more_listed : (ts : List ExprTree) → more_words (exprs_of ts) ≡ further whole_words ts
+more_listed : (ts : List ExprTree) → more_words (exprs_of ts) ≡ further_words whole_words ts
 more_listed [] = refl
 more_listed (t ∷ ts) = ap (λ l. word.Sign s.Comma ∷ (expr_words t 0 ++ l)) (more_listed ts)
 
-pub args_listed : (ts : List ExprTree) → listed whole_words ts ≡ args_words (exprs_of ts)
+pub args_listed : (ts : List ExprTree) → listed_words whole_words ts ≡ args_words (exprs_of ts)
 args_listed [] = refl
 args_listed (t ∷ ts) = ap (λ l. expr_words t 0 ++ l) (sym (more_listed ts))
 
@@ -124,9 +124,9 @@ module _ {X : Type 0} (ws : X → List Word) where
   all_turn o ys i y l at h k =
       same_words o (sym (ap (all_of ws) (shown ys i y l at) ∙ all_both (take i ys) (y ∷ []) ∙ ap (λ l. all_of ws (take i ys) ++ l) (append-nil (ws y)))) (behind o (all_of ws (take i ys)) (ws y) h k)
 
-  pub list_turn : (o : List ℕ) {a m b : List ℕ} (ys : List X) (i : ℕ) (y : X) → i < length ys → y ≡ get_or ys i y → a ≡ o ++ layout (listed ws (take i ys)) → m ≡ a ++ layout (comma_before i) → b ≡ m ++ layout (ws y) → b ≡ o ++ layout (listed ws (take (i + 1) ys))
+  pub list_turn : (o : List ℕ) {a m b : List ℕ} (ys : List X) (i : ℕ) (y : X) → i < length ys → y ≡ get_or ys i y → a ≡ o ++ layout (listed_words ws (take i ys)) → m ≡ a ++ layout (comma_before i) → b ≡ m ++ layout (ws y) → b ≡ o ++ layout (listed_words ws (take (i + 1) ys))
   list_turn o ys i y l at h c k =
-      same_words o (sym (ap (listed ws) (shown ys i y l at) ∙ listed_more ws (λ (x : X). x) i (take i ys) y (front_size ys i (omega (arith, l))))) (behind o (listed ws (take i ys)) (comma_before i ++ ws y) h (behind _ (comma_before i) (ws y) c k))
+      same_words o (sym (ap (listed_words ws) (shown ys i y l at) ∙ listed_more ws (λ (x : X). x) i (take i ys) y (front_size ys i (omega (arith, l))))) (behind o (listed_words ws (take i ys)) (comma_before i ++ ws y) h (behind _ (comma_before i) (ws y) c k))
 
   pub all_end : (o : List ℕ) {b : List ℕ} (ys : List X) (i : ℕ) → length ys ≤ i → b ≡ o ++ layout (all_of ws (take i ys)) → b ≡ o ++ layout (all_of ws ys)
   all_end o ys i l h = same_words o (ap (all_of ws) (take_all i ys l)) h

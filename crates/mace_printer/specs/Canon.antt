@@ -65,14 +65,14 @@ all_of words [] = []
 all_of words (x ∷ xs) = words x ⧺ all_of words xs
 
 -- each with a comma before it
-abbrev pub further : {X : Type 0} → (X → List Word) → List X → List Word
-further words [] = []
-further words (x ∷ xs) = sign s.Comma ⧺ words x ⧺ further words xs
+abbrev pub further_words : {X : Type 0} → (X → List Word) → List X → List Word
+further_words words [] = []
+further_words words (x ∷ xs) = sign s.Comma ⧺ words x ⧺ further_words words xs
 
 -- with commas between them
-abbrev pub listed : {X : Type 0} → (X → List Word) → List X → List Word
-listed words [] = []
-listed words (x ∷ xs) = words x ⧺ further words xs
+abbrev pub listed_words : {X : Type 0} → (X → List Word) → List X → List Word
+listed_words words [] = []
+listed_words words (x ∷ xs) = words x ⧺ further_words words xs
 
 -- ---- fields
 
@@ -180,7 +180,7 @@ index_words place = sign s.LeftBracket ⧺ whole_words place ⧺ sign s.RightBra
 -- ---- statements
 
 abbrev pub call_words : List ℕ → List ExprTree → List Word
-call_words f args = name f ⧺ sign s.LeftParen ⧺ listed whole_words args ⧺ sign s.RightParen
+call_words f args = name f ⧺ sign s.LeftParen ⧺ listed_words whole_words args ⧺ sign s.RightParen
 
 abbrev pub maybe_above : Option (List ℕ) → List Word
 maybe_above None = []
@@ -233,7 +233,7 @@ abbrev pub param_words : Param → List Word
 param_words p = name p.name.text ⧺ sign s.Colon ⧺ key (kind_key p.kind)
 
 abbrev pub params_words : List Param → List Word
-params_words ps = sign s.LeftParen ⧺ listed param_words ps ⧺ sign s.RightParen
+params_words ps = sign s.LeftParen ⧺ listed_words param_words ps ⧺ sign s.RightParen
 
 abbrev pub result_words : Option Kind → List Word
 result_words None = []

@@ -6,14 +6,14 @@ use Rattle.mace_lexer.specs.declared.token.Word.TheVariants as word
 use Rattle.mace_lexer.specs.declared.sign.Sign.{Sign}
 use Rattle.mace_lexer.specs.declared.sign.Sign.TheVariants as s
 use Rattle.mace_lexer.specs.Words.{keyword_bytes, sign_bytes}
-use Rattle.wave_base.specs.Text.{quoted}
+use Rattle.wave_base.specs.Text.{quoted_text}
 
 -- a name as it is, a number in decimal, a text in its quotes, with an escape only where it must stand
 abbrev pub spelling : Word → List ℕ
 spelling (word.Name t) = t
 spelling (word.Key k) = keyword_bytes k
 spelling (word.Number n) = signed_decimal n
-spelling (word.Text t) = quoted t
+spelling (word.Text t) = quoted_text t
 spelling (word.Sign j) = sign_bytes j
 
 abbrev pub gap_of : Sign → ℕ

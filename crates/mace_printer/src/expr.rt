@@ -2,7 +2,7 @@
 
 ghost use Rattle.std.specs.Prelude.{◌≡◌, ◌++◌, map, OnOk};
 ghost use Rattle.mace_ast.specs.Exprs.{expr_tree};
-ghost use Rattle.mace_grammar.specs.Levels.{looser_ones, wanted};
+ghost use Rattle.mace_grammar.specs.Levels.{looser_ones, wanted_looser};
 ghost use Rattle.mace_printer.specs.Canon as words;
 ghost use Rattle.mace_printer.specs.Canon.{◌⧺◌};
 ghost use Rattle.mace_printer.specs.inner.Parts as parts;
@@ -32,7 +32,7 @@ fn level_of(op: BinaryOp) -> Level
 
 // What is wanted of the left operand: chains are grouped to the left, and comparisons don't chain.
 fn left_level_of(op: BinaryOp) -> Option<Level>
-    ensures { wanted result ≡ words.left_level_of op }
+    ensures { wanted_looser result ≡ words.left_level_of op }
 {
     match op {
         BinaryOp::Or | BinaryOp::And => Some(level_of(op)),
@@ -89,7 +89,7 @@ pub fn put_expr(
     expr: &Expr,
     level: Option<Level>,
 ) -> Result<(), OutOfMemory>
-    ensures { OnOk result (out.new.items ≡ out.old.items ++ layout (words.expr_words (expr_tree expr.now) (wanted level))) }
+    ensures { OnOk result (out.new.items ≡ out.old.items ++ layout (words.expr_words (expr_tree expr.now) (wanted_looser level))) }
 {
     match &expr.node {
         Node::Number(n) => put_number(alloc, out, *n),
@@ -224,7 +224,7 @@ fn put_right(
 // Arguments, with commas between them.
 #[cycle(expr)]
 fn put_args(alloc: Global, out: &mut Vec<u8>, args: &[Expr]) -> Result<(), OutOfMemory>
-    ensures { OnOk result (out.new.items ≡ out.old.items ++ layout (words.listed words.whole_words (map expr_tree args.now))) }
+    ensures { OnOk result (out.new.items ≡ out.old.items ++ layout (words.listed_words words.whole_words (map expr_tree args.now))) }
 {
     for (i, arg) in args.iter().enumerate() {
         put_comma(out, i)?;

@@ -73,7 +73,7 @@ fn put_param(out: &mut Vec<u8>, param: &Param) -> Result<(), OutOfMemory>
 
 // Parameters, with commas between them.
 fn put_list(out: &mut Vec<u8>, params: &[Param]) -> Result<(), OutOfMemory>
-    ensures { OnOk result (out.new.items ≡ out.old.items ++ layout (words.listed words.param_words params.now)) }
+    ensures { OnOk result (out.new.items ≡ out.old.items ++ layout (words.listed_words words.param_words params.now)) }
 {
     for (i, param) in params.iter().enumerate() {
         put_comma(out, i)?;

@@ -19,7 +19,7 @@ use Rattle.value_ops.specs.Kinds.{Answer}
 use Rattle.resolved_service.specs.Fits.{IsChildClass}
 use Rattle.resolved_service.specs.Meaning as m
 use Rattle.resolved_service.specs.Meaning.{State, Outcome, Done, Trapped, Left, Act, and_then, answer, with_world, tick, enter_at, demand, choose}
-use Rattle.resolved_service.specs.World.{World, has, key_of, child, took, changed, with_entered, entering, releasing, sending, spawning, set_field}
+use Rattle.resolved_service.specs.World.{World, has, key_of, child, after_tick, after_change, with_entered, entering, releasing, sending, spawning, set_field}
 use Rattle.service_eval.proofs.PathLemmas.{parent_of-child, is_path-child, all_there, parent_there, enter_holds, entered_there, still_there, same_paths}
 use Rattle.service_eval.specs.Worlds.{Holds}
 use Rattle.meaning_laws.specs.Kept.{IsEarly}
@@ -85,7 +85,7 @@ module _ (shape : Shape) (first : Tree (List Value)) (g : ℕ) where
   pub safe_tick : (may : Bool) (p : Path) (at : Span) → Safe may p (tick at)
   safe_tick may p at st h = by_ticks st.world.ticks
     where
-      by_ticks : (n : ℕ) → Good may p (with_world (took n st.world) at st)
+      by_ticks : (n : ℕ) → Good may p (with_world (after_tick n st.world) at st)
       by_ticks zero = h.0
       by_ticks (suc n) = h
 
@@ -137,11 +137,11 @@ module _ (shape : Shape) (first : Tree (List Value)) (g : ℕ) where
         early = k.early;
       }
 
-      by_room : (b : Bool) → Good false q (with_world (if b then Ok (changed (with_entered q w)) else Err Reach) at st)
+      by_room : (b : Bool) → Good false q (with_world (if b then Ok (after_change (with_entered q w)) else Err Reach) at st)
       by_room true = (fresh, entered_there shape w.tree k.holds q)
       by_room false = k
 
-      by_held : (b : Bool) → has w.held q ≡ b → Good false q (with_world (if b then Ok (changed w) else (if nat_lt (length w.entered) 256 then Ok (changed (with_entered q w)) else Err Reach)) at st)
+      by_held : (b : Bool) → has w.held q ≡ b → Good false q (with_world (if b then Ok (after_change w) else (if nat_lt (length w.entered) 256 then Ok (after_change (with_entered q w)) else Err Reach)) at st)
       by_held true e = (k, all_there (λ r. there w.tree r ≡ true) w.held q e k.held_there)
       by_held false e = by_room (nat_lt (length w.entered) 256)
 

@@ -17,7 +17,7 @@ use Rattle.wave_base.specs.Tree.{Tree, there}
 use Rattle.resolved_service.specs.declared.service.Event.{Event}
 use Rattle.resolved_service.specs.declared.service.Resolved.{Resolved}
 use Rattle.resolved_service.specs.Fits.{FitsService, FitsEvent}
-use Rattle.resolved_service.specs.Jobs.{call_meaning, meant_by, meant_event, first_world, replied, ended}
+use Rattle.resolved_service.specs.Jobs.{call_meaning, meant_by, meant_event, first_world, outcome_of_reply, event_end}
 use Rattle.resolved_service.specs.Meaning as m
 use Rattle.resolved_service.specs.World.{World}
 use Rattle.resolved_service.specs.Meaning.{Outcome, Done, Trapped, Left, event_run}
@@ -27,11 +27,11 @@ use Rattle.meaning_laws.proofs.Keeping.{At, Kept, Ends}
 use Rattle.meaning_laws.proofs.Safely.{ends_event}
 
 module _ (shape : Shape) (t : Tree (List Value)) (g : ℕ) where
-  no_move : (reply : Option Value) (messages : List Message) (created : List Call) → move_of (record { outcome = replied reply; messages = messages; created = created }) ≡ None
+  no_move : (reply : Option Value) (messages : List Message) (created : List Call) → move_of (record { outcome = outcome_of_reply reply; messages = messages; created = created }) ≡ None
   no_move None messages created = refl
   no_move (Some x) messages created = refl
 
-  ends_kept : (reply : Option Value) (w : World) → Kept shape t g w → IsKept shape t g (ended reply w)
+  ends_kept : (reply : Option Value) (w : World) → Kept shape t g w → IsKept shape t g (event_end reply w)
   ends_kept reply w h = record {
     tree = h.holds;
     early = h.early;

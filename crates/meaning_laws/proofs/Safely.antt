@@ -15,7 +15,7 @@ use Rattle.resolved_service.specs.declared.service.Method.{Method}
 use Rattle.resolved_service.specs.declared.service.Phase.{Phase}
 use Rattle.resolved_service.specs.Fits.{count_of, IsMethod, FitsTree, FitsTrees, FitsMaybe, FitsStep, FitsSteps, FitsElse, FitsLast, FitsMethod, FitsPhases, FitsEvent}
 use Rattle.resolved_service.specs.Meaning as m
-use Rattle.resolved_service.specs.Meaning.{State, Outcome, Done, Trapped, Left, Act, and_then, ◌>>=◌, ◌>>◌, give, answer, with_world, tick, enter_at, release, back, choose, get_local, set_local, put_field, demand, leave, value, values, while_turns, for_test, for_body, effect, effects, else_effect, maybe_value, last_value, with_locals, run_method, called, worth, phases_run, event_run}
+use Rattle.resolved_service.specs.Meaning.{State, Outcome, Done, Trapped, Left, Act, and_then, ◌>>=◌, ◌>>◌, give, answer, with_world, tick, enter_at, release, back, choose, get_local, set_local, put_field, demand, leave, value, values, while_turns, for_test, for_body, effect, effects, else_effect, maybe_value, last_value, with_locals, run_method, call_act, worth, phases_run, event_run}
 use Rattle.resolved_service.specs.Steps.{Step, SetLocal, SetField, PutLocal, PutField, CutLocal, CutField, If, While, For, Require, Send, Spawn, Do, Return, Finish, Steps, no_steps, step, Else, no_else, otherwise, steps_in}
 use Rattle.resolved_service.specs.View.{Tree, Const, Local, Field, Above, Op, And, Or, Call, Child, Trees, no_trees, tree, tree_of}
 use Rattle.resolved_service.specs.World.{World, is_true, key_of, child}
@@ -115,28 +115,28 @@ module _ (shape : Shape) (first : Contexts (List Value)) (g : ℕ) (methods : Li
   safe_locals p locals (Left (m.Finished r) st) h = h
 
   module _ (old : g ≤ 4) (fit : All (FitsMethod shape methods) methods) where
-    pub safe_called : (n : ℕ) → IsFine (called methods n)
-    unfolding called
+    pub safe_called : (n : ℕ) → IsFine (call_act methods n)
+    unfolding call_act
     safe_called zero m count p given is st h = h.0
-    safe_called (suc n) m count p given is st h = subst (λ o. Good shape first g false p (run_method (called methods n) n o p given st)) (sym is.is_there) (by_method (safe_called n) is.method is.class_is (all_at (FitsMethod shape methods) methods m is.method is.is_there fit))
+    safe_called (suc n) m count p given is st h = subst (λ o. Good shape first g false p (run_method (call_act methods n) n o p given st)) (sym is.is_there) (by_method (safe_called n) is.method is.class_is (all_at (FitsMethod shape methods) methods m is.method is.is_there fit))
       where
-        by_method : IsFine (called methods n) → (x : Method) → x.class.0 ≡ class_of p → FitsMethod shape methods x → Good shape first g false p (run_method (called methods n) n (Some x) p given st)
+        by_method : IsFine (call_act methods n) → (x : Method) → x.class.0 ≡ class_of p → FitsMethod shape methods x → Good shape first g false p (run_method (call_act methods n) n (Some x) p given st)
         by_method fine x e f =
-            safe_locals p st.locals _ (safe_then shape first g true p (effects (called methods n) n p (steps_in x.body) _) (λ _. last_value (called methods n) n p x.last)
-            (safe_effects old (called methods n) fine n p (steps_in x.body) (subst (λ c. FitsSteps shape methods c (steps_in x.body)) e f.body) _ h)
-            (λ u. safe_last old (called methods n) fine n p x.last (subst (λ c. FitsLast shape methods c x.last) e f.last)))
+            safe_locals p st.locals _ (safe_then shape first g true p (effects (call_act methods n) n p (steps_in x.body) _) (λ _. last_value (call_act methods n) n p x.last)
+            (safe_effects old (call_act methods n) fine n p (steps_in x.body) (subst (λ c. FitsSteps shape methods c (steps_in x.body)) e f.body) _ h)
+            (λ u. safe_last old (call_act methods n) fine n p x.last (subst (λ c. FitsLast shape methods c x.last) e f.last)))
 
-    pub ends_phases : (n : ℕ) (phases : List Phase) (last : Option Last) (p : Path) → FitsPhases shape methods (class_of p) phases last → (st : State) → At shape first g p st.world → Ends shape first g (phases_run (called methods n) n phases last p st)
-    ends_phases n [] last p f st h = ends_good shape first g true p _ (safe_last old (called methods n) (safe_called n) n p last f st h)
+    pub ends_phases : (n : ℕ) (phases : List Phase) (last : Option Last) (p : Path) → FitsPhases shape methods (class_of p) phases last → (st : State) → At shape first g p st.world → Ends shape first g (phases_run (call_act methods n) n phases last p st)
+    ends_phases n [] last p f st h = ends_good shape first g true p _ (safe_last old (call_act methods n) (safe_called n) n p last f st h)
     ends_phases n (x ∷ xs) last p f st h =
-        ends_then shape first g true p (value (called methods n) p (tree_of x.key) st) _ (safe_value true (called methods n) (safe_called n) p (tree_of x.key) f.1 st h) (λ k st h.
+        ends_then shape first g true p (value (call_act methods n) p (tree_of x.key) st) _ (safe_value true (call_act methods n) (safe_called n) p (tree_of x.key) f.1 st h) (λ k st h.
         let q = child p x.class.0 k in
         let c = class_below p x.class.0 k in
         ends_then shape first g false q (enter_at q x.at st) _ (enters_child shape first g p x.class.0 k x.at st h f.0) (λ u st h.
-        ends_then shape first g true q (effects (called methods n) n q (steps_in x.body) _) _ (safe_effects old (called methods n) (safe_called n) n q (steps_in x.body) (subst (λ c. FitsSteps shape methods c (steps_in x.body)) (sym c) f.2) _ (releases shape first g q q st.world h)) (λ u st h.
+        ends_then shape first g true q (effects (call_act methods n) n q (steps_in x.body) _) _ (safe_effects old (call_act methods n) (safe_called n) n q (steps_in x.body) (subst (λ c. FitsSteps shape methods c (steps_in x.body)) (sym c) f.2) _ (releases shape first g q q st.world h)) (λ u st h.
         ends_phases n xs last q (subst (λ c. FitsPhases shape methods c xs last) (sym c) f.3) st h)))
 
     pub ends_event : (n : ℕ) (e : Event) (given : List Value) (w : World) → FitsEvent shape methods e → At shape first g [] w → Ends shape first g (event_run methods n e given w)
     ends_event n e given w f h =
-        ends_then shape first g true [] (effects (called methods n) n [] (steps_in e.here) _) _ (safe_effects old (called methods n) (safe_called n) n [] (steps_in e.here) f.here _ h)
+        ends_then shape first g true [] (effects (call_act methods n) n [] (steps_in e.here) _) _ (safe_effects old (call_act methods n) (safe_called n) n [] (steps_in e.here) f.here _ h)
         (λ u st h. ends_phases n e.phases e.last [] f.phases st h)

@@ -14,7 +14,7 @@ use Rattle.resolved_service.specs.declared.service.Last.{Last}
 use Rattle.resolved_service.specs.declared.service.Method.{Method}
 use Rattle.resolved_service.specs.declared.service.Phase.{Phase}
 use Rattle.resolved_service.specs.declared.service.Resolved.{Resolved}
-use Rattle.resolved_service.specs.Meaning.{Act, Outcome, Done, Trapped, ◌>>=◌, ◌>>◌, give, value, effects, last_value, with_blanks, with_locals, run_method, nowhere, called, enter_at, release, phases_run, event_run}
+use Rattle.resolved_service.specs.Meaning.{Act, Outcome, Done, Trapped, ◌>>=◌, ◌>>◌, give, value, effects, last_value, with_blanks, with_locals, run_method, nowhere, call_act, enter_at, release, phases_run, event_run}
 use Rattle.resolved_service.specs.Steps.{steps_in}
 use Rattle.resolved_service.specs.View.{tree_of}
 use Rattle.resolved_service.specs.World.{World, child}
@@ -74,11 +74,11 @@ method_is : (call : Calls) (n : ℕ) (m : Option Method) → run_method call n m
 method_is call n None = refl
 method_is call n (Some m) = fun_ext (λ p. fun_ext (λ given. fun_ext (λ st. ap (λ f. with_locals st.locals ((effects call n p (method_view m).body >> f) (record { locals = with_blanks given m.locals; world = st.world }))) (last_is call n p m.last))))
 
-called_is : (methods : List Method) (n : ℕ) → called methods n ≡ called_seen (map method_view methods) n
-unfolding called
+called_is : (methods : List Method) (n : ℕ) → call_act methods n ≡ called_seen (map method_view methods) n
+unfolding call_act
 called_is methods zero = refl
 called_is methods (suc n) = fun_ext (λ m.
-    method_is (called methods n) n (slice_get methods m)
+    method_is (call_act methods n) n (slice_get methods m)
     ∙ (λ i. method_seen (called_is methods n i) n (at_place method_view methods m i)))
 
 phases_are : (call : Calls) (n : ℕ) (fs : List Phase) (last : Option Last) (p : Path) → phases_run call n fs last p ≡ phases_seen call n (map phase_view fs) (option_map last_view last) p

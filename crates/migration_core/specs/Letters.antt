@@ -10,12 +10,12 @@ use Rattle.wave_states.specs.States as theory
 use Rattle.wave_states.specs.Steps as steps
 
 -- what an Enter asks for
-abbrev pub asked : Letter → Option theory.Ask
-asked (Enter number followed peek) = Some (record { number = number; followed = followed; peek = peek })
-asked Visit = None
-asked Back = None
-asked Release = None
-asked (Transfer e) = None
+abbrev pub ask_of : Letter → Option theory.Ask
+ask_of (Enter number followed peek) = Some (record { number = number; followed = followed; peek = peek })
+ask_of Visit = None
+ask_of Back = None
+ask_of Release = None
+ask_of (Transfer e) = None
 
 -- a letter stands for one of the theory: a Transfer's entry for its entry, the others for one alone
 abbrev pub Says : Letter → theory.Letter (List Value) → Type 0

@@ -2,7 +2,7 @@
 
 ghost use Rattle.std.specs.Prelude.{ℕ, ◌≡◌, List, IsSome, IfSome};
 ghost use Rattle.host_map.specs.Stores.{IsAt};
-ghost use Rattle.migration_core.specs.Letters.{asked, route_of};
+ghost use Rattle.migration_core.specs.Letters.{ask_of, route_of};
 ghost use Rattle.migration_core.specs.inner.Finds.{FoundAt};
 ghost use Rattle.wave_base.specs.declared.value.Value.{Value};
 ghost use Rattle.wave_states.specs.States as theory;
@@ -14,8 +14,8 @@ use wave_base::Path;
 
 /// Where an Enter goes that lies at the host with this store.
 pub fn route(store: &HostStore, mail: &Mail) -> Route
-    requires { IsSome (asked mail.now.letter) }
-    ensures { (c : theory.Column (List Value)) (host : ℕ) → IsAt store.now mail.now.path c host → IfSome (asked mail.now.letter) (λ a. route_of result ≡ route c host a.followed) }
+    requires { IsSome (ask_of mail.now.letter) }
+    ensures { (c : theory.Column (List Value)) (host : ℕ) → IsAt store.now mail.now.path c host → IfSome (ask_of mail.now.letter) (λ a. route_of result ≡ route c host a.followed) }
 {
     match mail.letter {
         Letter::Enter { followed, .. } => route_at(store, &mail.path, followed),

@@ -5,7 +5,7 @@ use Rattle.std.specs.Map.{lookup}
 use Rattle.wave_base.specs.Names.{same_bytes}
 use Rattle.indexmap.specs.IndexMap.{IndexMap, insert_entry}
 use Rattle.indexmap.proofs.CallerLemmas.{insert_entry-new}
-use Rattle.name_table.specs.Numbers.{pairs_of, first_number, noted}
+use Rattle.name_table.specs.Numbers.{pairs_of, first_number, numbers_with}
 
 pub same_symm : (a b : List ℕ) → same_bytes a b ≡ same_bytes b a
 same_symm a b = nat_list_eq_equiv.symm a b
@@ -25,7 +25,7 @@ same_items x y = pointwise nat_eq x.items y.items
 
 -- a name that wasn't there goes last
 pub pairs_noted : {S : Type 0} (m : IndexMap (Vec ℕ Global) ℕ S) (new : List (Vec ℕ Global × ℕ)) (k : Vec ℕ Global) (ps : List (List ℕ × ℕ)) (name : List ℕ) (number : ℕ)
-    → pairs_of m.entries ≡ ps → k.items ≡ name → first_number ps name ≡ None → new ≡ insert_entry same_items m.entries k number → pairs_of new ≡ noted ps name number
+    → pairs_of m.entries ≡ ps → k.items ≡ name → first_number ps name ≡ None → new ≡ insert_entry same_items m.entries k number → pairs_of new ≡ numbers_with ps name number
 pairs_noted m new k ps name number view items none made =
     let absent : lookup (λ e. pointwise nat_eq k.items e.items) m.entries ≡ None = lookup_first m.entries k.items ∙ ap (first_number (pairs_of m.entries)) items ∙ ap (λ l. first_number l name) view ∙ none in
     let pushed : pairs_of new ≡ ps ++ (name, number) ∷ [] = ap pairs_of (made ∙ insert_entry-new same_items m k number absent) ∙ pairs_push m.entries k number ∙ (λ i. view i ++ (items i, number) ∷ []) in

@@ -7,7 +7,7 @@ use Rattle.std.proofs.lemmas.Iterator.Adapters.{position_from-zero}
 use Rattle.std.proofs.lemmas.Bool.Decides.{eqb_tells}
 use Rattle.std.proofs.lemmas.List.{get_or-set_same, get_or-set_other}
 use Rattle.wave_base.specs.Names.{same_bytes}
-use Rattle.name_table.specs.Numbers.{first_number, noted, TellsFirst, TellFirst}
+use Rattle.name_table.specs.Numbers.{first_number, numbers_with, TellsFirst, TellFirst}
 
 or_none : {A : Type 0} (o : Option A) → option_or o None ≡ o
 or_none None = refl
@@ -59,7 +59,7 @@ first_same (p ∷ ps) a b h =
 
 module _ {X : Type 0} (p : List ℕ → X → Bool) (xs : List X) (x : X) (name : List ℕ) (is : (q : List ℕ) → p q x ≡ same_bytes name q) where
   -- a table that tells the first of each name among those so far tells it among one more
-  pub noted_more : (ps : List (List ℕ × ℕ)) → TellsFirst p xs ps → TellsFirst p (xs ++ x ∷ []) (noted ps name (length xs))
+  pub noted_more : (ps : List (List ℕ × ℕ)) → TellsFirst p xs ps → TellsFirst p (xs ++ x ∷ []) (numbers_with ps name (length xs))
   noted_more ps tells q = by (first_number ps name) refl
     where
       all : position (p q) (xs ++ x ∷ []) ≡ option_or (first_number ps q) (cond (same_bytes name q) (Some (length xs)) None)
@@ -69,7 +69,7 @@ module _ {X : Type 0} (p : List ℕ → X → Bool) (xs : List X) (x : X) (name 
       old k e true h = let found : first_number ps q ≡ Some k = sym (first_same ps name q h) ∙ e in found ∙ sym (ap (λ o. option_or o (Some (length xs))) found)
       old k e false h = sym (or_none (first_number ps q))
 
-      by : (o : Option ℕ) → first_number ps name ≡ o → first_number (noted ps name (length xs)) q ≡ position (p q) (xs ++ x ∷ [])
+      by : (o : Option ℕ) → first_number ps name ≡ o → first_number (numbers_with ps name (length xs)) q ≡ position (p q) (xs ++ x ∷ [])
       by None e = ap (λ o. first_number (if is_some o then ps else ps ++ (name, length xs) ∷ []) q) e ∙ first_push ps name (length xs) q ∙ sym all
       by (Some k) e = ap (λ o. first_number (if is_some o then ps else ps ++ (name, length xs) ∷ []) q) e ∙ old k e (same_bytes name q) refl ∙ sym all
 
@@ -93,11 +93,11 @@ module _ {X : Type 0} (p : ℕ → List ℕ → X → Bool) (xs : List X) (table
 
   module _ (x : X) (at : ℕ) (name : List ℕ) (is : (q : List ℕ) → p at q x ≡ same_bytes name q) (other : (n : ℕ) (q : List ℕ) → at ≢ n → p n q x ≡ false) (there : at < length tables) where
     -- one item more, which is in one of them
-    pub told_in : TellFirst p (xs ++ x ∷ []) (set tables at (noted (get_or tables at []) name (length xs)))
+    pub told_in : TellFirst p (xs ++ x ∷ []) (set tables at (numbers_with (get_or tables at []) name (length xs)))
     told_in n q = by (eqb_tells at n)
       where
         now : List (List ℕ × ℕ)
-        now = noted (get_or tables at []) name (length xs)
+        now = numbers_with (get_or tables at []) name (length xs)
 
         by : (((at == n) ≡ true) × (at ≡ n)) ⊎ (((at == n) ≡ false) × (at ≢ n)) → first_number (get_or (set tables at now) n []) q ≡ position (p n q) (xs ++ x ∷ [])
         by (inl e) = subst (λ n. first_number (get_or (set tables at now) n []) q ≡ position (p n q) (xs ++ x ∷ [])) e.1

@@ -12,8 +12,8 @@ first_number [] name = None
 first_number (p ∷ ps) name = if same_bytes p.0 name then Some p.1 else first_number ps name
 
 -- one more number for a name
-abbrev pub noted : List (List ℕ × ℕ) → List ℕ → ℕ → List (List ℕ × ℕ)
-noted ps name number = if is_some (first_number ps name) then ps else ps ++ (name, number) ∷ []
+abbrev pub numbers_with : List (List ℕ × ℕ) → List ℕ → ℕ → List (List ℕ × ℕ)
+numbers_with ps name number = if is_some (first_number ps name) then ps else ps ++ (name, number) ∷ []
 
 -- of each name the table tells the place of the first item that has it
 abbrev pub TellsFirst : {X : Type 0} → (List ℕ → X → Bool) → List X → List (List ℕ × ℕ) → Type 0

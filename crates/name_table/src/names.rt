@@ -1,7 +1,7 @@
 //! Numbers by name.
 
 ghost use Rattle.std.specs.Prelude.{◌≡◌, [], OnOk, OnErr};
-ghost use Rattle.name_table.specs.Numbers.{first_number, noted};
+ghost use Rattle.name_table.specs.Numbers.{first_number, numbers_with};
 
 use indexmap::IndexMap;
 use std::alloc::Global;
@@ -42,7 +42,7 @@ impl Names {
 
     /// Notes a number for a name. Where memory is wanting, nothing has changed.
     pub fn note(&mut self, alloc: Global, name: &[u8], number: u16) -> Result<(), OutOfMemory>
-        ensures ok { OnOk result (self.new ≡ noted self.old name.now number) }
+        ensures ok { OnOk result (self.new ≡ numbers_with self.old name.now number) }
         ensures err { OnErr result (self.new ≡ self.old) }
     {
         if self.first(name).is_none() {

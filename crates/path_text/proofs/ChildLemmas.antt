@@ -8,7 +8,7 @@ use Rattle.wave_base.specs.declared.shape.ClassInfo.{ClassInfo}
 use Rattle.wave_base.specs.declared.shape.Shape.{Shape}
 use Rattle.wave_base.specs.Names.{same_bytes}
 use Rattle.wave_base.specs.Shapes.{IsShape, is_class, parent_in}
-use Rattle.name_table.specs.Numbers.{noted, TellFirst}
+use Rattle.name_table.specs.Numbers.{numbers_with, TellFirst}
 use Rattle.name_table.proofs.Noting.{told_blank, told_other, told_in}
 use Rattle.path_text.specs.Paths.{is_child}
 use Rattle.path_text.specs.inner.Children.{AreBelow, with_named, with_child}
@@ -72,7 +72,7 @@ child_count tables info number = named_count info.parent
   where
     named_count : (o : Option Class) → length (with_named tables o info.name number) ≡ length tables
     named_count None = refl
-    named_count (Some d) = length-set tables d.0 (noted (get_or tables d.0 []) info.name number)
+    named_count (Some d) = length-set tables d.0 (numbers_with (get_or tables d.0 []) info.name number)
 
 pub blank_count : (tables new : List (List (List ℕ × ℕ))) (i : ℕ) → length tables ≡ i → new ≡ tables ++ [] ∷ [] → length new ≡ i + 1
 blank_count tables new i count e = ap length e ∙ length-append tables ([] ∷ []) ∙ ap (λ n. n + 1) count

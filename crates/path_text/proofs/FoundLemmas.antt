@@ -8,7 +8,7 @@ use Rattle.wave_base.specs.declared.path.Step.{Step}
 use Rattle.wave_base.specs.declared.shape.Shape.{Shape}
 use Rattle.wave_base.specs.Memory.{the_refusal}
 use Rattle.wave_base.specs.Names.{HasNames}
-use Rattle.wave_text.specs.Numbers.{number_of, positive, negative, whole_of}
+use Rattle.wave_text.specs.Numbers.{number_of, positive_int, negative_int, whole_of}
 use Rattle.path_text.specs.declared.parse.PathError.{PathError}
 use Rattle.path_text.specs.declared.parse.PathError.TheVariants.{Syntax, UnknownClass, OutOfMemory}
 use Rattle.path_text.specs.declared.written.Written.{Written}
@@ -21,7 +21,7 @@ use Rattle.path_text.proofs.PathLemmas.{chained, mapped, path_is}
 
 -- ---- numbers
 
-positive_fits : (n : ℕ) (z : ℤ) → positive n ≡ Some z → FitsSigned w64 z
+positive_fits : (n : ℕ) (z : ℤ) → positive_int n ≡ Some z → FitsSigned w64 z
 positive_fits n z e =
     elim (nat_lt n (2 ^ 63)) as (λ t. nat_lt n (2 ^ 63) ≡ t → cond t (Some (pos n)) None ≡ Some z → FitsSigned w64 z) [
       | true ↦ λ h k. (let same : pos n ≡ z = cc in let below : n < 2 ^ 63 = grind (arith, nat_tests) in subst (FitsSigned w64) same (record { sfits = below }))
@@ -32,7 +32,7 @@ negative_number : (n : ℕ) → n ≤ 2 ^ 63 → FitsSigned w64 (neg_ℤ (pos n)
 negative_number zero h = record { sfits = omega arith }
 negative_number (suc n) h = record { sfits = omega arith }
 
-negative_fits : (n : ℕ) (z : ℤ) → negative n ≡ Some z → FitsSigned w64 z
+negative_fits : (n : ℕ) (z : ℤ) → negative_int n ≡ Some z → FitsSigned w64 z
 negative_fits n z e =
     elim (nat_le n (2 ^ 63)) as (λ t. nat_le n (2 ^ 63) ≡ t → cond t (Some (neg_ℤ (pos n))) None ≡ Some z → FitsSigned w64 z) [
       | true ↦ λ h k. (let same : neg_ℤ (pos n) ≡ z = cc in let below : n ≤ 2 ^ 63 = grind (arith, nat_tests) in subst (FitsSigned w64) same (negative_number n below))
@@ -42,7 +42,7 @@ negative_fits n z e =
 pub whole_fits : (text : List ℕ) (z : ℤ) → whole_of text ≡ Some z → FitsSigned w64 z
 whole_fits [] z e = cc
 whole_fits (b ∷ bs) z e =
-    elim (b == 45) as (λ t. cond t (negative (number_of bs)) (positive (number_of (b ∷ bs))) ≡ Some z → FitsSigned w64 z) [
+    elim (b == 45) as (λ t. cond t (negative_int (number_of bs)) (positive_int (number_of (b ∷ bs))) ≡ Some z → FitsSigned w64 z) [
       | true ↦ λ k. negative_fits (number_of bs) z k
       | false ↦ λ k. positive_fits (number_of (b ∷ bs)) z k
     ] e

@@ -30,8 +30,8 @@ use Rattle.service_code.specs.declared.instr.Instr.TheVariants.{PushInt, PushBoo
 use Rattle.service_code.specs.declared.program.Program.{Program}
 use Rattle.service_verify.specs.Boxes.{Frame, Box, first_box}
 use Rattle.service_verify.specs.Segments.{go_on, enough, steps, segment}
-use Rattle.service_verify.specs.Steps.{Move, Runs, Paused, Lost, with_some, on_top, on_truth, on_int, truth_of, int_of, taken, has_kinds, is_held, trapped, finished, answered, put_row, cut_row, step_to, entering, ticking, next_with, jumped, with_result, runs, left, called, sent, created, code_of, places_of, acts, acted, frames_step, one_step}
-use Rattle.service_verify.specs.Tours.{Fields, Tour, fields_above, into, toured, tour_if, next_tour, tour_after, first_tour, most_segments, code_tour}
+use Rattle.service_verify.specs.Steps.{Move, Runs, Paused, Lost, with_some, on_top, on_truth, on_int, truth_of, int_of, taken_values, has_kinds, is_held, trap_move, end_move, answer_move, put_row, cut_row, step_to, entering, ticking, next_with, frame_at, with_result, runs, left, called, sent, created, code_of, places_of, acts, acted, frames_step, one_step}
+use Rattle.service_verify.specs.Tours.{Fields, Tour, fields_above, into, tour_with, tour_if, next_tour, tour_after, first_tour, most_segments, code_tour}
 
 -- an event's own end
 abbrev pub is_event_end : Outcome → Bool
@@ -90,7 +90,7 @@ module _ (g : ℕ) where
   if_keeps true x y e f = e
   if_keeps false x y e f = f
 
-  answer_keeps : (a : Answer Value) (at : Span) (b : Box) (fields : List Value) (go : Value → Move) → ((x : Value) → K (go x)) → ((t : TrapKind) → K (trapped t at b fields)) → K (answered a at b fields go)
+  answer_keeps : (a : Answer Value) (at : Span) (b : Box) (fields : List Value) (go : Value → Move) → ((x : Value) → K (go x)) → ((t : TrapKind) → K (trap_move t at b fields)) → K (answer_move a at b fields go)
   answer_keeps (Ok x) at b fields go e f = e x
   answer_keeps (Err t) at b fields go e f = f t
 
@@ -109,7 +109,7 @@ module _ (g : ℕ) where
     so_far : Spawned g b.kept.created
     so_far = same.1
 
-    trap_keeps : (t : TrapKind) → K (trapped t at b fields)
+    trap_keeps : (t : TrapKind) → K (trap_move t at b fields)
     trap_keeps t = record { own = refl; spawned = none_spawned g }
 
     left_keeps : (x : Option Value) → K (left program levels b f below fields x)
@@ -145,23 +145,23 @@ module _ (g : ℕ) where
     keeps (Field i) = some_keeps (slice_get fields i) _ (λ x. same)
     keeps (SetField i) = some_keeps (slice_get fields i) _ (λ x. top_keeps f.stack _ (λ x rest. same))
     keeps (Above l i) = some_keeps (field_at levels l i) _ (λ x. same)
-    keeps (Op r) = some_keeps (taken (length (takes_of r)) [] f.stack) (λ t. if has_kinds (takes_of r) t.0 then answered (apply_row r t.0) at b fields (λ x. runs program levels b below (next_with f (x ∷ t.1)) fields) else Lost) (λ t. if_keeps (has_kinds (takes_of r) t.0) (answered (apply_row r t.0) at b fields (λ x. runs program levels b below (next_with f (x ∷ t.1)) fields)) Lost (answer_keeps (apply_row r t.0) at b fields (λ x. runs program levels b below (next_with f (x ∷ t.1)) fields) (λ x. same) trap_keeps) tt)
+    keeps (Op r) = some_keeps (taken_values (length (takes_of r)) [] f.stack) (λ t. if has_kinds (takes_of r) t.0 then answer_move (apply_row r t.0) at b fields (λ x. runs program levels b below (next_with f (x ∷ t.1)) fields) else Lost) (λ t. if_keeps (has_kinds (takes_of r) t.0) (answer_move (apply_row r t.0) at b fields (λ x. runs program levels b below (next_with f (x ∷ t.1)) fields)) Lost (answer_keeps (apply_row r t.0) at b fields (λ x. runs program levels b below (next_with f (x ∷ t.1)) fields) (λ x. same) trap_keeps) tt)
     keeps (PutLocal s) = some_keeps (slice_get f.locals s) _ (λ m. int_keeps f.stack _ (λ z rest. int_keeps rest _ (λ u rest. answer_keeps (apply_row put_row (m ∷ v.Int u ∷ v.Int z ∷ [])) at b fields (λ x. runs program levels b below (record (next_with f rest) { locals = slice_set f.locals s x }) fields) (λ x. same) trap_keeps)))
     keeps (PutField i) = some_keeps (slice_get fields i) _ (λ m. int_keeps f.stack _ (λ z rest. int_keeps rest _ (λ u rest. answer_keeps (apply_row put_row (m ∷ v.Int u ∷ v.Int z ∷ [])) at b fields (λ x. runs program levels b below (next_with f rest) (slice_set fields i x)) (λ x. same) trap_keeps)))
     keeps (CutLocal s) = some_keeps (slice_get f.locals s) _ (λ m. int_keeps f.stack _ (λ z rest. answer_keeps (apply_row cut_row (m ∷ v.Int z ∷ [])) at b fields (λ x. runs program levels b below (record (next_with f rest) { locals = slice_set f.locals s x }) fields) (λ x. same) trap_keeps))
     keeps (CutField i) = some_keeps (slice_get fields i) _ (λ m. int_keeps f.stack _ (λ z rest. answer_keeps (apply_row cut_row (m ∷ v.Int z ∷ [])) at b fields (λ x. runs program levels b below (next_with f rest) (slice_set fields i x)) (λ x. same) trap_keeps))
     keeps (Jump i) = same
-    keeps (JumpFalse i) = truth_keeps f.stack (λ x rest. runs program levels b below (if x then next_with f rest else jumped f i rest) fields) (λ c rest. same)
-    keeps Tick = tick_keeps b.ticks (λ n. runs program levels (record b { ticks = n }) below (next_with f f.stack) fields) (trapped trap.Ticks at b fields) (λ n. same) (trap_keeps trap.Ticks)
-    keeps (CallOwn g) = some_keeps (slice_get program.functions g) (λ callee. with_some (taken (length callee.args) [] f.stack) (λ t. Runs (called program levels b f below t.1 g false callee t.0) fields)) (λ callee. some_keeps (taken (length callee.args) [] f.stack) (λ t. Runs (called program levels b f below t.1 g false callee t.0) fields) (λ t. same))
-    keeps (CallDown c g) = some_keeps (slice_get program.functions g) _ (λ callee. some_keeps (taken (length callee.args) [] f.stack) _ (λ t. int_keeps t.1 _ (λ key rest. enter_keeps (b.path ++ step_to program levels c.0 key ∷ []) b (λ b'. Paused (record (called program levels b' f below rest g true callee t.0) { path = b.path ++ step_to program levels c.0 key ∷ [] }) fields (pause.Down (step_to program levels c.0 key))) (trapped trap.Reach at b fields) (λ more entered. same) (trap_keeps trap.Reach))))
+    keeps (JumpFalse i) = truth_keeps f.stack (λ x rest. runs program levels b below (if x then next_with f rest else frame_at f i rest) fields) (λ c rest. same)
+    keeps Tick = tick_keeps b.ticks (λ n. runs program levels (record b { ticks = n }) below (next_with f f.stack) fields) (trap_move trap.Ticks at b fields) (λ n. same) (trap_keeps trap.Ticks)
+    keeps (CallOwn g) = some_keeps (slice_get program.functions g) (λ callee. with_some (taken_values (length callee.args) [] f.stack) (λ t. Runs (called program levels b f below t.1 g false callee t.0) fields)) (λ callee. some_keeps (taken_values (length callee.args) [] f.stack) (λ t. Runs (called program levels b f below t.1 g false callee t.0) fields) (λ t. same))
+    keeps (CallDown c g) = some_keeps (slice_get program.functions g) _ (λ callee. some_keeps (taken_values (length callee.args) [] f.stack) _ (λ t. int_keeps t.1 _ (λ key rest. enter_keeps (b.path ++ step_to program levels c.0 key ∷ []) b (λ b'. Paused (record (called program levels b' f below rest g true callee t.0) { path = b.path ++ step_to program levels c.0 key ∷ [] }) fields (pause.Down (step_to program levels c.0 key))) (trap_move trap.Reach at b fields) (λ more entered. same) (trap_keeps trap.Reach))))
     keeps Return = some_keeps (slice_get program.functions f.function) (λ own. with_result own.result f.stack (λ x. left program levels b f below fields x)) (λ own. result_keeps own.result f.stack (λ x. left program levels b f below fields x) (λ x. left_keeps x))
     keeps Pop = top_keeps f.stack (λ x rest. runs program levels b below (next_with f rest) fields) (λ x rest. same)
-    keeps Require = truth_keeps f.stack (λ x rest. if x then runs program levels b below (next_with f rest) fields else trapped trap.Require at b fields) (λ c rest. if_keeps c (runs program levels b below (next_with f rest) fields) (trapped trap.Require at b fields) same (trap_keeps trap.Require))
-    keeps (Send t) = some_keeps (slice_get program.texts t) (λ label. on_top f.stack (λ x rest. sent program levels b below (next_with f rest) fields at (record { label = label; value = x }))) (λ label. top_keeps f.stack (λ x rest. sent program levels b below (next_with f rest) fields at (record { label = label; value = x })) (λ x rest. if_keeps (nat_lt (length b.kept.messages) MESSAGES) _ (trapped trap.Sends at b fields) same (trap_keeps trap.Sends)))
-    keeps (Spawn e) = some_keeps (slice_get program.shape.events e) (λ event. with_some (taken (length event.params) [] f.stack) (λ t. created program levels b below (next_with f t.1) fields at (record { event = e; args = t.0; generation = suc b.generation }))) (λ event. some_keeps (taken (length event.params) [] f.stack) (λ t. created program levels b below (next_with f t.1) fields at (record { event = e; args = t.0; generation = suc b.generation })) (λ t. if_keeps (b.generation == GENERATION) (trapped trap.Generation at b fields) _ (trap_keeps trap.Generation) (room_keeps (runs program levels (record b { kept = with_call b.kept (record { event = e; args = t.0; generation = suc b.generation }) }) below (next_with f t.1) fields) (trapped trap.Spawns at b fields) (λ few. one_more (record { event = e; args = t.0; generation = suc b.generation }) refl few) (trap_keeps trap.Spawns))))
-    keeps (Go c) = int_keeps f.stack _ (λ key rest. enter_keeps (b.path ++ step_to program levels c.0 key ∷ []) b (λ b'. Paused (record b' { frames = next_with f rest ∷ below; path = b.path ++ step_to program levels c.0 key ∷ []; held = filter (is_above (b.path ++ step_to program levels c.0 key ∷ [])) b'.held }) fields (pause.Go (step_to program levels c.0 key))) (trapped trap.Reach at b fields) (λ more entered. same) (trap_keeps trap.Reach))
-    keeps Reply = top_keeps f.stack (λ x rest. finished (Replied x) b fields) (λ x rest. (record { own = refl; spawned = so_far }))
+    keeps Require = truth_keeps f.stack (λ x rest. if x then runs program levels b below (next_with f rest) fields else trap_move trap.Require at b fields) (λ c rest. if_keeps c (runs program levels b below (next_with f rest) fields) (trap_move trap.Require at b fields) same (trap_keeps trap.Require))
+    keeps (Send t) = some_keeps (slice_get program.texts t) (λ label. on_top f.stack (λ x rest. sent program levels b below (next_with f rest) fields at (record { label = label; value = x }))) (λ label. top_keeps f.stack (λ x rest. sent program levels b below (next_with f rest) fields at (record { label = label; value = x })) (λ x rest. if_keeps (nat_lt (length b.kept.messages) MESSAGES) _ (trap_move trap.Sends at b fields) same (trap_keeps trap.Sends)))
+    keeps (Spawn e) = some_keeps (slice_get program.shape.events e) (λ event. with_some (taken_values (length event.params) [] f.stack) (λ t. created program levels b below (next_with f t.1) fields at (record { event = e; args = t.0; generation = suc b.generation }))) (λ event. some_keeps (taken_values (length event.params) [] f.stack) (λ t. created program levels b below (next_with f t.1) fields at (record { event = e; args = t.0; generation = suc b.generation })) (λ t. if_keeps (b.generation == GENERATION) (trap_move trap.Generation at b fields) _ (trap_keeps trap.Generation) (room_keeps (runs program levels (record b { kept = with_call b.kept (record { event = e; args = t.0; generation = suc b.generation }) }) below (next_with f t.1) fields) (trap_move trap.Spawns at b fields) (λ few. one_more (record { event = e; args = t.0; generation = suc b.generation }) refl few) (trap_keeps trap.Spawns))))
+    keeps (Go c) = int_keeps f.stack _ (λ key rest. enter_keeps (b.path ++ step_to program levels c.0 key ∷ []) b (λ b'. Paused (record b' { frames = next_with f rest ∷ below; path = b.path ++ step_to program levels c.0 key ∷ []; held = filter (is_above (b.path ++ step_to program levels c.0 key ∷ [])) b'.held }) fields (pause.Go (step_to program levels c.0 key))) (trap_move trap.Reach at b fields) (λ more entered. same) (trap_keeps trap.Reach))
+    keeps Reply = top_keeps f.stack (λ x rest. end_move (Replied x) b fields) (λ x rest. (record { own = refl; spawned = so_far }))
     keeps End = (record { own = refl; spawned = so_far })
 
     acted_keeps : (i : Instr) → K (acted program levels i at f below b fields)
@@ -203,7 +203,7 @@ module _ (g : ℕ) where
     into_stands t b fields true h = h
     into_stands t b fields false h = h
 
-    toured_stands : (t : Tour) → So t.box → t.result ≡ None → (m : Move) → K m → Stands (toured t m) (toured t m).result
+    toured_stands : (t : Tour) → So t.box → t.result ≡ None → (m : Move) → K m → Stands (tour_with t m) (tour_with t m).result
     toured_stands t h none (Runs b fields) k = subst (Stands t) (sym none) h
     toured_stands t h none (Paused b fields (pause.Go s)) k = into_stands t b fields (is_held t.box.held b.path) k
     toured_stands t h none (Paused b fields (pause.Down s)) k = into_stands t b fields (is_held t.box.held b.path) k

@@ -16,7 +16,7 @@ ghost use Rattle.wave_states.specs.Alone.{run_alone, segments_of, fold_alone, jo
 ghost use Rattle.wave_states.specs.Owes.{Owes, IsBegin, IsPlan};
 ghost use Rattle.wave_states.specs.Runs as runs;
 ghost use Rattle.wave_states.specs.Work.{work_after};
-ghost use Rattle.wave_theory.specs.Counted.{passed};
+ghost use Rattle.wave_theory.specs.Counted.{pass_count};
 ghost use Rattle.wave_theory.specs.Drives.{Picks, HasDrive};
 ghost use Rattle.code_actor.specs.CodeActors.{Fields};
 ghost use Rattle.code_actor.specs.CodeActors as code;
@@ -28,7 +28,7 @@ ghost use Rattle.plan_actors.specs.Plans.{Plan, Fits, FitsStart, begin_in};
 ghost use Rattle.plan_actors.specs.Runs.{OfRuns, OfWholeRuns};
 
 use crate::actors::PlanActors;
-use wave_theory::{bounded, complete, driven, loads, results, tickets};
+use wave_theory::{complete, drives_end, label_bounds, loads, results, tickets};
 
 /// A plan that fits is one that fits the machine, and a Start that fits it a beginning.
 pub fn plans_begin()
@@ -98,7 +98,7 @@ pub fn finished_states_tell()
 /// A run has at most 2T + 3S + 2E + E * M labels, and a finished one 2T + 3S + 2E besides its Passes.
 pub fn runs_are_short()
     ensures most { OfRuns (λ plan start labels s. length labels ≤ most_labels plan start) }
-    ensures finished { OfWholeRuns (λ plan start labels s. length labels ≡ least_labels plan start + passed labels) }
+    ensures finished { OfWholeRuns (λ plan start labels s. length labels ≡ least_labels plan start + pass_count labels) }
 {
     bounded::<PlanActors>();
     complete::<PlanActors>();

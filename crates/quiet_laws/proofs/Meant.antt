@@ -19,7 +19,7 @@ use Rattle.service_code.specs.declared.program.Function.{Function}
 use Rattle.service_code.specs.declared.program.Program.{Program}
 use Rattle.service_verify.specs.Boxes.{Frame, Box}
 use Rattle.service_verify.specs.Looks.{is_quiet}
-use Rattle.service_verify.specs.Steps.{Move, Paused, acted, acts, answered, called, entering, has_kinds, int_of, is_held, left, next_with, on_int, on_top, on_truth, put_row, cut_row, runs, step_to, taken, ticking, trapped, truth_of, with_result, with_some}
+use Rattle.service_verify.specs.Steps.{Move, Paused, acted, acts, answer_move, called, entering, has_kinds, int_of, is_held, left, next_with, on_int, on_top, on_truth, put_row, cut_row, runs, step_to, taken_values, ticking, trap_move, truth_of, with_result, with_some}
 use Rattle.service_verify.proofs.Samples.{function, market}
 use Rattle.quiet_laws.specs.Harmless.{Leaves, IsHarmless, QuietOnesAreHarmless}
 
@@ -47,7 +47,7 @@ module _ (fields : List Value) where
   if_leaves true x y h g = h
   if_leaves false x y h g = g
 
-  answer_leaves : (a : Answer Value) (at : Span) (b : Box) (go : Value → Move) → ((x : Value) → L (go x)) → L (answered a at b fields go)
+  answer_leaves : (a : Answer Value) (at : Span) (b : Box) (go : Value → Move) → ((x : Value) → L (go x)) → L (answer_move a at b fields go)
   answer_leaves (Ok x) at b go h = h x
   answer_leaves (Err t) at b go h = refl
 
@@ -74,7 +74,7 @@ module _ (fields : List Value) where
     harmless (Field n) q = some_leaves (slice_get fields n) _ (λ x. refl)
     harmless (SetField n) q = cc
     harmless (Above l n) q = some_leaves (field_at levels l n) _ (λ x. refl)
-    harmless (Op r) q = some_leaves (taken (length (takes_of r)) [] f.stack) _ (λ t. if_leaves (has_kinds (takes_of r) t.0) _ _ (answer_leaves (apply_row r t.0) at b _ (λ x. refl)) tt)
+    harmless (Op r) q = some_leaves (taken_values (length (takes_of r)) [] f.stack) _ (λ t. if_leaves (has_kinds (takes_of r) t.0) _ _ (answer_leaves (apply_row r t.0) at b _ (λ x. refl)) tt)
     harmless (PutLocal s) q = some_leaves (slice_get f.locals s) _ (λ m. int_leaves f.stack _ (λ z rest. int_leaves rest _ (λ u rest. answer_leaves (apply_row put_row (m ∷ v.Int u ∷ v.Int z ∷ [])) at b _ (λ x. refl))))
     harmless (PutField n) q = cc
     harmless (CutLocal s) q = some_leaves (slice_get f.locals s) _ (λ m. int_leaves f.stack _ (λ z rest. answer_leaves (apply_row cut_row (m ∷ v.Int z ∷ [])) at b _ (λ x. refl)))
@@ -82,14 +82,14 @@ module _ (fields : List Value) where
     harmless (Jump i) q = refl
     harmless (JumpFalse i) q = truth_leaves f.stack _ (λ c rest. refl)
     harmless Tick q = tick_leaves b.ticks _ _ (λ n. refl) refl
-    harmless (CallOwn g) q = some_leaves (slice_get program.functions g) _ (λ callee. some_leaves (taken (length callee.args) [] f.stack) _ (λ t. refl))
+    harmless (CallOwn g) q = some_leaves (slice_get program.functions g) _ (λ callee. some_leaves (taken_values (length callee.args) [] f.stack) _ (λ t. refl))
     harmless (CallDown c g) q = cc
     harmless Return q = some_leaves (slice_get program.functions f.function) _ (λ own. result_leaves own.result f.stack _ (λ x. back_leaves below x))
     harmless Pop q = top_leaves f.stack _ (λ x rest. refl)
     harmless Require q = truth_leaves f.stack _ (λ c rest. if_leaves c _ _ refl refl)
     harmless (Send t) q = some_leaves (slice_get program.texts t) _ (λ label. top_leaves f.stack _ (λ x rest. if_leaves (nat_lt (length b.kept.messages) MESSAGES) _ _ refl refl))
     harmless (Spawn e) q =
-        some_leaves (slice_get program.shape.events e) _ (λ event. some_leaves (taken (length event.params) [] f.stack) _
+        some_leaves (slice_get program.shape.events e) _ (λ event. some_leaves (taken_values (length event.params) [] f.stack) _
         (λ t. if_leaves (b.generation == GENERATION) _ _ refl (if_leaves (nat_lt (length b.kept.created) SPAWNS) _ _ refl refl)))
     harmless (Go c) q = int_leaves f.stack _ (λ key rest. if_leaves (is_held b.held _) _ _ refl (if_leaves (nat_lt b.entered CONTEXTS) _ _ refl refl))
     harmless Reply q = top_leaves f.stack _ (λ x rest. refl)
@@ -148,7 +148,7 @@ unfolding acted apply_row operators
 puts n h =
     let stack : List Value = int 1 ∷ int 1 ∷ [] in
     let fields : List Value = many n (v.Map []) in
-    let e = subst (λ o. Leaves fields (with_some o (λ m. on_int stack (λ value rest. on_int rest (λ key rest. answered (apply_row put_row (m ∷ v.Int key ∷ v.Int value ∷ [])) at box fields (λ x. runs market [] box [] (next_with (frame stack) rest) (slice_set fields n x)))))))
+    let e = subst (λ o. Leaves fields (with_some o (λ m. on_int stack (λ value rest. on_int rest (λ key rest. answer_move (apply_row put_row (m ∷ v.Int key ∷ v.Int value ∷ [])) at box fields (λ x. runs market [] box [] (next_with (frame stack) rest) (slice_set fields n x)))))))
     (many_get n (v.Map [])) (h market [] at (frame stack) [] box fields) in
     let one : pair ≡ v.Map [] = changed n (v.Map []) pair e in
     cc
@@ -158,7 +158,7 @@ unfolding acted apply_row operators
 cuts n h =
     let stack : List Value = int 1 ∷ [] in
     let fields : List Value = many n pair in
-    let e = subst (λ o. Leaves fields (with_some o (λ m. on_int stack (λ key rest. answered (apply_row cut_row (m ∷ v.Int key ∷ [])) at box fields (λ x. runs market [] box [] (next_with (frame stack) rest) (slice_set fields n x))))))
+    let e = subst (λ o. Leaves fields (with_some o (λ m. on_int stack (λ key rest. answer_move (apply_row cut_row (m ∷ v.Int key ∷ [])) at box fields (λ x. runs market [] box [] (next_with (frame stack) rest) (slice_set fields n x))))))
     (many_get n pair) (h market [] at (frame stack) [] box fields) in
     let none : v.Map [] ≡ pair = changed n pair (v.Map []) e in
     cc
@@ -172,10 +172,10 @@ unfolding acted
 calls c g h =
     let program : Program = record market { functions = many g callee } in
     let stack : List Value = int 0 ∷ [] in
-    subst (λ o. Leaves [] (with_some o (λ callee. with_some (taken (length callee.args) [] stack) (λ t.
+    subst (λ o. Leaves [] (with_some o (λ callee. with_some (taken_values (length callee.args) [] stack) (λ t.
     on_int t.1 (λ key rest. let q = box.path ++ step_to program [] c.0 key ∷ [] in
     entering q box (λ b. Paused (record (called program [] b (frame stack) [] rest g true callee t.0) { path = q }) [] (pause.Down (step_to program [] c.0 key)))
-    (trapped trap.Reach at box []))))))
+    (trap_move trap.Reach at box []))))))
     (many_get g callee) (h program [] at (frame stack) [] box [])
 
 quiet_ones : (i : Instr) → IsHarmless i → is_quiet (λ g. true) i ≡ true

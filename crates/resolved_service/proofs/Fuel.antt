@@ -12,10 +12,10 @@ use Rattle.resolved_service.specs.declared.service.Event.{Event}
 use Rattle.resolved_service.specs.declared.service.Last.{Last}
 use Rattle.resolved_service.specs.declared.service.Method.{Method}
 use Rattle.resolved_service.specs.declared.service.Phase.{Phase}
-use Rattle.resolved_service.specs.Meaning.{State, Returned, Finished, Outcome, Done, Trapped, Left, Act, and_then, ◌>>=◌, ◌>>◌, give, answer, with_world, tick, enter_at, choose, set_local, put_field, demand, leave, row_add, row_put, row_cut, worth, value, values, while_turns, for_test, for_body, maybe_value, effect, effects, else_effect, last_value, with_locals, with_blanks, run_method, called, phases_run, event_run}
+use Rattle.resolved_service.specs.Meaning.{State, Returned, Finished, Outcome, Done, Trapped, Left, Act, and_then, ◌>>=◌, ◌>>◌, give, answer, with_world, tick, enter_at, choose, set_local, put_field, demand, leave, row_add, row_put, row_cut, worth, value, values, while_turns, for_test, for_body, maybe_value, effect, effects, else_effect, last_value, with_locals, with_blanks, run_method, call_act, phases_run, event_run}
 use Rattle.resolved_service.specs.Steps.{Step, SetLocal, SetField, PutLocal, PutField, CutLocal, CutField, If, While, For, Require, Send, Spawn, Do, Return, Finish, Steps, no_steps, step, Else, no_else, otherwise, steps_in}
 use Rattle.resolved_service.specs.View.{Tree, Const, Local, Field, Above, Op, And, Or, Call, Child, Trees, no_trees, tree, tree_of}
-use Rattle.resolved_service.specs.World.{World, nothing, is_true, child, took, changed, with_entered, has, entering, sending, spawning, read_field, set_field}
+use Rattle.resolved_service.specs.World.{World, nothing, is_true, child, after_tick, after_change, with_entered, has, entering, sending, spawning, read_field, set_field}
 
 -- at most so many ticks are left
 abbrev Few : {A : Type 0} → ℕ → Outcome A → Type 0
@@ -58,9 +58,9 @@ enter_like : (j : ℕ) (q : Path) (at : Span) → Like j (enter_at q at) (enter_
 unfolding entering
 enter_like j q at st h = (
   refl,
-  elim (has st.world.held q) as (λ b. Few j (with_world (if b then Ok (changed st.world) else (if nat_lt (length st.world.entered) CONTEXTS then Ok (changed (with_entered q st.world)) else Err trap.Reach)) at st)) [
+  elim (has st.world.held q) as (λ b. Few j (with_world (if b then Ok (after_change st.world) else (if nat_lt (length st.world.entered) CONTEXTS then Ok (after_change (with_entered q st.world)) else Err trap.Reach)) at st)) [
     | true ↦ h
-    | false ↦ elim (nat_lt (length st.world.entered) CONTEXTS) as (λ b. Few j (with_world (if b then Ok (changed (with_entered q st.world)) else Err trap.Reach) at st)) [ true ↦ h | false ↦ tt ]
+    | false ↦ elim (nat_lt (length st.world.entered) CONTEXTS) as (λ b. Few j (with_world (if b then Ok (after_change (with_entered q st.world)) else Err trap.Reach) at st)) [ true ↦ h | false ↦ tt ]
   ],
 )
 
@@ -86,7 +86,7 @@ demand_like j true at st h = (refl, h)
 demand_like j false at st h = (refl, tt)
 
 -- behind a tick fewer ticks are left
-took_like : {B : Type 0} (n j : ℕ) (st : State) (at : Span) (f f' : Unit {0} → Act B) → n ≤ j → ((i : ℕ) → suc i ≤ j → Like i (f tt) (f' tt)) → Same j (and_then (with_world (took n st.world) at st) f) (and_then (with_world (took n st.world) at st) f')
+took_like : {B : Type 0} (n j : ℕ) (st : State) (at : Span) (f f' : Unit {0} → Act B) → n ≤ j → ((i : ℕ) → suc i ≤ j → Like i (f tt) (f' tt)) → Same j (and_then (with_world (after_tick n st.world) at st) f) (and_then (with_world (after_tick n st.world) at st) f')
 took_like zero j st at f f' l h = (refl, tt)
 took_like (suc n) j st at f f' l h =
     let after : State = record { locals = st.locals; world = record st.world { ticks = n } } in
@@ -95,12 +95,12 @@ took_like (suc n) j st at f f' l h =
 tick_like : {B : Type 0} (j : ℕ) (at : Span) (f f' : Unit {0} → Act B) → ((i : ℕ) → suc i ≤ j → Like i (f tt) (f' tt)) → Like j (tick at >>= f) (tick at >>= f')
 tick_like j at f f' h st l = took_like st.world.ticks j st at f f' l h
 
-took_self : (n j : ℕ) (st : State) (at : Span) → n ≤ j → Same j (with_world (took n st.world) at st) (with_world (took n st.world) at st)
+took_self : (n j : ℕ) (st : State) (at : Span) → n ≤ j → Same j (with_world (after_tick n st.world) at st) (with_world (after_tick n st.world) at st)
 took_self zero j st at l = (refl, tt)
 took_self (suc n) j st at l = (refl, omega arith)
 
 -- where no tick is left, nothing comes behind it
-no_tick : (n j : ℕ) (st : State) (at : Span) (f : Unit {0} → Act (Unit {0})) → n ≤ j → j ≤ 0 → Same j (with_world (took n st.world) at st) (and_then (with_world (took n st.world) at st) f) × Same j (and_then (with_world (took n st.world) at st) f) (with_world (took n st.world) at st)
+no_tick : (n j : ℕ) (st : State) (at : Span) (f : Unit {0} → Act (Unit {0})) → n ≤ j → j ≤ 0 → Same j (with_world (after_tick n st.world) at st) (and_then (with_world (after_tick n st.world) at st) f) × Same j (and_then (with_world (after_tick n st.world) at st) f) (with_world (after_tick n st.world) at st)
 no_tick zero j st at f l e = ((refl, tt), (refl, tt))
 no_tick (suc n) j st at f l e = absurd (omega arith)
 
@@ -230,17 +230,17 @@ module _ (call call' : ℕ → Path → List Value → Act (Option Value)) (k : 
 -- ---- calls and events
 
 module _ (methods : List Method) where
-  called_like : (n n' j : ℕ) → suc j ≤ n → suc j ≤ n' → (m : ℕ) (q : Path) (given : List Value) → Like j (called methods n m q given) (called methods n' m q given)
-  unfolding called
+  called_like : (n n' j : ℕ) → suc j ≤ n → suc j ≤ n' → (m : ℕ) (q : Path) (given : List Value) → Like j (call_act methods n m q given) (call_act methods n' m q given)
+  unfolding call_act
   called_like zero n' j l l' m q given = absurd (omega arith)
   called_like (suc n) zero j l l' m q given = absurd (omega arith)
   called_like (suc n) (suc n') j l l' m q given =
-      method_like (called methods n) (called methods n') j (λ m q given i e. called_like n n' i (omega arith) (omega arith) m q given) n n' (omega arith) (omega arith) (slice_get methods m) q given j (omega arith)
+      method_like (call_act methods n) (call_act methods n') j (λ m q given i e. called_like n n' i (omega arith) (omega arith) m q given) n n' (omega arith) (omega arith) (slice_get methods m) q given j (omega arith)
 
   pub enough_fuel : (n n' : ℕ) (e : Event) (given : List Value) (w : World) → w.ticks ≤ n → w.ticks ≤ n' → event_run methods n e given w ≡ event_run methods n' e given w
   enough_fuel n n' e given w l l' =
       let j = w.ticks in
-      let calls : (m : ℕ) (q : Path) (given : List Value) (i : ℕ) → suc i ≤ j → Like i (called methods n m q given) (called methods n' m q given) = λ m q given i f. called_like n n' i (omega arith) (omega arith) m q given in
-      (then_like j (effects (called methods n) n [] (steps_in e.here) _) (effects (called methods n') n' [] (steps_in e.here) _) _ _
-      (effects_like (called methods n) (called methods n') j calls [] n n' l l' (steps_in e.here) j (omega arith) (record { locals = with_blanks given e.locals; world = w }) (omega arith))
-      (λ u. phases_like (called methods n) (called methods n') j calls n n' l l' e.phases e.last [] j (omega arith))).0
+      let calls : (m : ℕ) (q : Path) (given : List Value) (i : ℕ) → suc i ≤ j → Like i (call_act methods n m q given) (call_act methods n' m q given) = λ m q given i f. called_like n n' i (omega arith) (omega arith) m q given in
+      (then_like j (effects (call_act methods n) n [] (steps_in e.here) _) (effects (call_act methods n') n' [] (steps_in e.here) _) _ _
+      (effects_like (call_act methods n) (call_act methods n') j calls [] n n' l l' (steps_in e.here) j (omega arith) (record { locals = with_blanks given e.locals; world = w }) (omega arith))
+      (λ u. phases_like (call_act methods n) (call_act methods n') j calls n n' l l' e.phases e.last [] j (omega arith))).0

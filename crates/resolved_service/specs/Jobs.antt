@@ -34,21 +34,21 @@ pub record Meant : Type 0 where
   pub ran : Ran (List Value) EventResult
   pub changes : ℕ
 
-abbrev pub replied : Option Value → Outcome
-replied None = out.Done
-replied (Some x) = out.Reply x
+abbrev pub outcome_of_reply : Option Value → Outcome
+outcome_of_reply None = out.Done
+outcome_of_reply (Some x) = out.Reply x
 
-abbrev pub ended : Option Value → World → Meant
-ended reply w = record {
-  ran = record { tree = w.tree; result = record { outcome = replied reply; messages = w.messages; created = w.created }; entered = w.entered };
+abbrev pub event_end : Option Value → World → Meant
+event_end reply w = record {
+  ran = record { tree = w.tree; result = record { outcome = outcome_of_reply reply; messages = w.messages; created = w.created }; entered = w.entered };
   changes = w.changes;
 }
 
 -- where it traps, its changes stay, and what it sends and creates is dropped
 abbrev pub meant_by : m.Outcome (Option Value) → Meant
-meant_by (m.Done reply st) = ended reply st.world
-meant_by (m.Left (m.Returned reply) st) = ended reply st.world
-meant_by (m.Left (m.Finished reply) st) = ended reply st.world
+meant_by (m.Done reply st) = event_end reply st.world
+meant_by (m.Left (m.Returned reply) st) = event_end reply st.world
+meant_by (m.Left (m.Finished reply) st) = event_end reply st.world
 meant_by (m.Trapped k at w) = record {
   ran = record { tree = w.tree; result = record { outcome = out.Trapped (record { kind = k; at = at }); messages = []; created = [] }; entered = w.entered };
   changes = w.changes;

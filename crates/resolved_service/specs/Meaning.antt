@@ -16,7 +16,7 @@ use Rattle.resolved_service.specs.declared.service.Method.{Method}
 use Rattle.resolved_service.specs.declared.service.Phase.{Phase}
 use Rattle.resolved_service.specs.Steps.{Step, SetLocal, SetField, PutLocal, PutField, CutLocal, CutField, If, While, For, Require, Send, Spawn, Do, Return, Finish, Steps, no_steps, step, Else, no_else, otherwise, steps_in}
 use Rattle.resolved_service.specs.View.{Tree, Const, Local, Field, Above, Op, And, Or, Call, Child, Trees, no_trees, tree, tree_of}
-use Rattle.resolved_service.specs.World.{World, blank_of, nothing, is_true, child, ticking, changed, entering, releasing, sending, spawning, read_field, read_above, set_field}
+use Rattle.resolved_service.specs.World.{World, blank_of, nothing, is_true, child, ticking, after_change, entering, releasing, sending, spawning, read_field, read_above, set_field}
 
 pub record State : Type 0 where
   pub locals : List Value
@@ -68,7 +68,7 @@ abbrev pub enter_at : Path → Span → Act (Unit {0})
 enter_at q at st = with_world (entering q st.world) at st
 
 abbrev pub back : Act (Unit {0})
-back st = Done tt (record { locals = st.locals; world = changed st.world })
+back st = Done tt (record { locals = st.locals; world = after_change st.world })
 
 abbrev pub release : Path → Act (Unit {0})
 release q st = Done tt (record { locals = st.locals; world = releasing q st.world })
@@ -257,9 +257,9 @@ abbrev pub nowhere : Span
 nowhere = record { line = 0; col = 0 }
 
 -- a call before which so many ticks were left: it took one of them, so there was one
-unfoldable pub called : List Method → ℕ → ℕ → Path → List Value → Act (Option Value)
-called methods zero m p given st = Trapped trap.Ticks nowhere st.world
-called methods (suc n) m p given st = run_method (called methods n) n (slice_get methods m) p given st
+unfoldable pub call_act : List Method → ℕ → ℕ → Path → List Value → Act (Option Value)
+call_act methods zero m p given st = Trapped trap.Ticks nowhere st.world
+call_act methods (suc n) m p given st = run_method (call_act methods n) n (slice_get methods m) p given st
 
 -- ---- events
 
@@ -276,5 +276,5 @@ phases_run call n (f ∷ fs) last p = do
 -- an event with its arguments as locals, where so many ticks are left
 abbrev pub event_run : List Method → ℕ → Event → List Value → World → Outcome (Option Value)
 event_run methods n e given w =
-    (effects (called methods n) n [] (steps_in e.here) >> phases_run (called methods n) n e.phases e.last [])
+    (effects (call_act methods n) n [] (steps_in e.here) >> phases_run (call_act methods n) n e.phases e.last [])
     (record { locals = with_blanks given e.locals; world = w })

@@ -44,16 +44,16 @@ pub record World : Type 0 where
 abbrev pub has : List Path → Path → Bool
 has paths p = list_any (path_eq p) paths
 
-abbrev pub took : ℕ → World → Answer World
-took zero w = Err Ticks
-took (suc n) w = Ok (record w { ticks = n })
+abbrev pub after_tick : ℕ → World → Answer World
+after_tick zero w = Err Ticks
+after_tick (suc n) w = Ok (record w { ticks = n })
 
 -- a tick, where one is left
 abbrev pub ticking : World → Answer World
-ticking w = took w.ticks w
+ticking w = after_tick w.ticks w
 
-abbrev pub changed : World → World
-changed w = record w { changes = suc w.changes }
+abbrev pub after_change : World → World
+after_change w = record w { changes = suc w.changes }
 
 -- a new context is entered and held, and joins the tree if it isn't there
 abbrev pub with_entered : Path → World → World
@@ -62,8 +62,8 @@ with_entered q w = record w { tree = enter w.tree q; entered = w.entered ++ q �
 -- into a context: one that is held already, or one more of at most 256
 unfoldable pub entering : Path → World → Answer World
 entering q w =
-    if has w.held q then Ok (changed w)
-    else if nat_lt (length w.entered) CONTEXTS then Ok (changed (with_entered q w))
+    if has w.held q then Ok (after_change w)
+    else if nat_lt (length w.entered) CONTEXTS then Ok (after_change (with_entered q w))
     else Err Reach
 
 -- all is given up that lies outside the subtree of a context

@@ -12,7 +12,7 @@ use Rattle.wave_base.specs.PathLaws.{path_eq_decides}
 use Rattle.script_fold.specs.declared.visits.Load.{Load}
 use Rattle.script_fold.specs.declared.visits.Visits.{Visits}
 use Rattle.script_fold.specs.Lives.{has_load, is_at}
-use Rattle.script_fold.specs.inner.Visiting.{AreInOrder, found, host_at, load_at, loads_in, place_in, unseen}
+use Rattle.script_fold.specs.inner.Visiting.{AreInOrder, value_at, host_at, load_at, loads_in, place_in, no_load}
 use Rattle.script_fold.proofs.OrderLemmas.{Alike, same_sorted}
 use Rattle.script_fold.proofs.PlaceLemmas.{map_twice, no_host, own, owned}
 use Rattle.script_fold.proofs.VisitLemmas.{found_is}
@@ -103,13 +103,13 @@ module _ (v : Visits) where
     counts p = nat_lt 0 (load_at ls p).count
 
     counted_alike : Alike (filter counts (keys_of hs)) (keys_of ls)
-    counted_alike p = any_filter counts (keys_of hs) p ∙ ap (λ b. counts p && b) (sym (found_is hs p)) ∙ by_found (found ls p) refl ∙ found_is ls p
+    counted_alike p = any_filter counts (keys_of hs) p ∙ ap (λ b. counts p && b) (sym (found_is hs p)) ∙ by_found (value_at ls p) refl ∙ found_is ls p
       where
-        by_found : (x : Option Load) → found ls p ≡ x → (counts p && is_some (found hs p)) ≡ is_some (found ls p)
+        by_found : (x : Option Load) → value_at ls p ≡ x → (counts p && is_some (value_at hs p)) ≡ is_some (value_at ls p)
         by_found (Some l) e =
-            let s : is_some (found ls p) ≡ true = ap is_some e in
-            ap (λ b. b && is_some (found hs p)) (lt-ltb 0 (load_at ls p).count (o.entered p s)) ∙ o.within p s ∙ sym s
-        by_found None e = ap (λ x. nat_lt 0 (unwrap_or x unseen).count && is_some (found hs p)) e ∙ sym (ap is_some e)
+            let s : is_some (value_at ls p) ≡ true = ap is_some e in
+            ap (λ b. b && is_some (value_at hs p)) (lt-ltb 0 (load_at ls p).count (o.entered p s)) ∙ o.within p s ∙ sym s
+        by_found None e = ap (λ x. nat_lt 0 (unwrap_or x no_load).count && is_some (value_at hs p)) e ∙ sym (ap is_some e)
 
     abbrev at : Path → Place × ℕ
     at p = (record { path = p; host = host_at hs p }, (load_at ls p).count)
@@ -119,5 +119,5 @@ module _ (v : Visits) where
         let counted : filter counts (keys_of hs) ≡ keys_of ls = same_sorted (filter counts (keys_of hs)) (keys_of ls) (IsStrictlySortedBy-filter path_cmp counts (keys_of hs) o.sorted) ordered counted_alike in
         let all : map shown hs ≡ map at (keys_of hs) = ap (map shown) (owned no_host hs o.sorted) ∙ map_twice shown (own no_host hs) (keys_of hs) in
         let own_loads : map (λ (e : Path × Load). (record { path = e.0; host = host_at hs e.0 }, e.1.count)) ls ≡ map at (keys_of ls) =
-        ap (map (λ (e : Path × Load). (record { path = e.0; host = host_at hs e.0 }, e.1.count))) (owned unseen ls ordered) ∙ map_twice (λ (e : Path × Load). (record { path = e.0; host = host_at hs e.0 }, e.1.count)) (own unseen ls) (keys_of ls) in
+        ap (map (λ (e : Path × Load). (record { path = e.0; host = host_at hs e.0 }, e.1.count))) (owned no_load ls ordered) ∙ map_twice (λ (e : Path × Load). (record { path = e.0; host = host_at hs e.0 }, e.1.count)) (own no_load ls) (keys_of ls) in
         zip_maps (λ e. record { path = e.0; host = host_at hs e.0 }) (λ e. e.1.count) ls ∙ own_loads ∙ ap (map at) (sym counted) ∙ sym (filter_map has_load at (keys_of hs)) ∙ ap (filter has_load) (sym all) ∙ ap (filter has_load) (sym all_shown)

@@ -23,7 +23,7 @@ use Rattle.context_tree.specs.Contexts.{Contexts}
 use Rattle.script_fold.specs.declared.visits.Visits.{Visits}
 use Rattle.script_fold.specs.Runs.{place_of}
 use Rattle.script_fold.specs.inner.Standing.{IsBegun}
-use Rattle.script_fold.specs.inner.Visiting.{AreInOrder, IsSeen, IsVisited, found, host_at, load_at, loads_in, place_in}
+use Rattle.script_fold.specs.inner.Visiting.{AreInOrder, IsSeen, IsVisited, value_at, host_at, load_at, loads_in, place_in}
 use Rattle.script_fold.proofs.VisitLemmas.{at_path, there_is}
 
 abbrev pub kept_at : Place → Path × Host
@@ -72,9 +72,9 @@ places_again (x ∷ places) = ap (λ xs. x ∷ xs) (places_again places)
 -- the hosts that are kept are those of the places
 host_shown : (es : List (Path × Host)) (p : Path) → (host_at es p).0 ≡ shown_host (map place_in es) p
 host_shown [] p = refl
-host_shown (e ∷ es) p = ap (λ b. (unwrap_or (cond b (Some e.1) (found es p)) (record { 0 = 0 })).0) (at_path p e.0) ∙ by_test (path_eq e.0 p) (host_shown es p)
+host_shown (e ∷ es) p = ap (λ b. (unwrap_or (cond b (Some e.1) (value_at es p)) (record { 0 = 0 })).0) (at_path p e.0) ∙ by_test (path_eq e.0 p) (host_shown es p)
   where
-    by_test : (b : Bool) → (host_at es p).0 ≡ shown_host (map place_in es) p → (unwrap_or (cond b (Some e.1) (found es p)) (record { 0 = 0 })).0 ≡ (if b then e.1.0 else shown_host (map place_in es) p)
+    by_test : (b : Bool) → (host_at es p).0 ≡ shown_host (map place_in es) p → (unwrap_or (cond b (Some e.1) (value_at es p)) (record { 0 = 0 })).0 ≡ (if b then e.1.0 else shown_host (map place_in es) p)
     by_test true h = refl
     by_test false h = h
 
@@ -92,8 +92,8 @@ begun_visited start contexts v next ordered b = record {
   sorted = ordered;
   host = λ p. host_shown v.hosts.entries p ∙ ap (λ xs. shown_host xs p) b.places;
   seen = λ p. subst (λ ls. IsSeen 0 0 false (load_at ls p)) (sym b.loads) (record { count = refl; mark = refl; last = omega arith; few = omega arith });
-  within = λ p s. absurd (true≢false (sym s ∙ ap (λ ls. is_some (found ls p)) b.loads));
-  entered = λ p s. absurd (true≢false (sym s ∙ ap (λ ls. is_some (found ls p)) b.loads));
+  within = λ p s. absurd (true≢false (sym s ∙ ap (λ ls. is_some (value_at ls p)) b.loads));
+  entered = λ p s. absurd (true≢false (sym s ∙ ap (λ ls. is_some (value_at ls p)) b.loads));
 }
 
 -- ---- what is kept in order is what look-ups give
@@ -108,20 +108,20 @@ map_along f g (x ∷ xs) h = λ i. h.0 i ∷ map_along f g xs h.1 i
 module _ {V : Type 0} (d : V) where
   -- an entry by its look-up
   abbrev pub own : List (Path × V) → Path → Path × V
-  own es k = (k, unwrap_or (found es k) d)
+  own es k = (k, unwrap_or (value_at es k) d)
 
   own_later : (e : Path × V) (es : List (Path × V)) (ks : List Path) → AllByRecursion (λ k. path_cmp e.0 k ≡ Less) ks → AllByRecursion (λ k. own es k ≡ own (e ∷ es) k) ks
   own_later e es [] h = tt
   own_later e es (k ∷ ks) h =
       let other : is_at (path_cmp k) e.0 ≡ false = at_path k e.0 ∙ path_eq_ties e.0 k ∙ ap is_eq h.0 in
-      (ap (λ b. (k, unwrap_or (cond b (Some e.1) (found es k)) d)) (sym other), own_later e es ks h.1)
+      (ap (λ b. (k, unwrap_or (cond b (Some e.1) (value_at es k)) d)) (sym other), own_later e es ks h.1)
 
   pub owned : (es : List (Path × V)) → IsStrictlySortedBy path_cmp (keys_of es) → es ≡ map (own es) (keys_of es)
   unfolding IsStrictlySortedBy
   owned [] h = refl
   owned (e ∷ es) h =
       let here : is_at (path_cmp e.0) e.0 ≡ true = at_path e.0 e.0 ∙ path_eq_equiv.refl e.0 in
-      λ i. (e.0, unwrap_or (cond (sym here i) (Some e.1) (found es e.0)) d) ∷ (owned es h.1 ∙ map_along (own es) (own (e ∷ es)) (keys_of es) (own_later e es (keys_of es) h.0)) i
+      λ i. (e.0, unwrap_or (cond (sym here i) (Some e.1) (value_at es e.0)) d) ∷ (owned es h.1 ∙ map_along (own es) (own (e ∷ es)) (keys_of es) (own_later e es (keys_of es) h.0)) i
 
 pub map_twice : {A B C : Type 0} (f : B → C) (g : A → B) (xs : List A) → map f (map g xs) ≡ map (λ x. f (g x)) xs
 map_twice f g [] = refl

@@ -17,7 +17,7 @@ use Rattle.wave_base.specs.Places.{with_context, with_contexts, load_of}
 use Rattle.wave_base.specs.Tree.{Tree, there, enter, put}
 use Rattle.script_fold.specs.declared.visits.Load.{Load}
 use Rattle.script_fold.specs.declared.visits.Visits.{Visits}
-use Rattle.script_fold.specs.inner.Visiting.{IsSeen, IsVisited, found, host_at, load_at, with_job, unseen}
+use Rattle.script_fold.specs.inner.Visiting.{IsSeen, IsVisited, value_at, host_at, load_at, with_job, no_load}
 use Rattle.script_fold.proofs.SeenLemmas.{seen_counted, some_counted}
 
 pub parent_last : (p : List Step) (s : Step) → parent_of (p ++ s ∷ []) ≡ p
@@ -30,10 +30,10 @@ pub at_path : (p k : Path) → is_at (path_cmp p) k ≡ path_eq k p
 at_path p k = sym (path_eq_ties p k) ∙ path_eq_equiv.symm p k
 
 -- something is kept at a path where the path is among the keys
-pub found_is : {V : Type 0} (es : List (Path × V)) (p : Path) → is_some (found es p) ≡ list_any (path_eq p) (keys_of es)
+pub found_is : {V : Type 0} (es : List (Path × V)) (p : Path) → is_some (value_at es p) ≡ list_any (path_eq p) (keys_of es)
 found_is es p = is_some-lookup (is_at (path_cmp p)) es ∙ (λ i. list_any (λ k. sym (path_eq_ties p k) i) (keys_of es))
 
-pub there_is : (hosts : Tree ℕ) (es : List (Path × Host)) (p : Path) → keys_of es ≡ hosts.paths → is_some (found es p) ≡ there hosts p
+pub there_is : (hosts : Tree ℕ) (es : List (Path × Host)) (p : Path) → keys_of es ≡ hosts.paths → is_some (value_at es p) ≡ there hosts p
 there_is hosts es p e = found_is es p ∙ ap (list_any (path_eq p)) e
 
 or_true : (a : Bool) → (a || true) ≡ true
@@ -59,20 +59,20 @@ keys_joined p v (e ∷ es) =
 
 -- where one entry was set
 abbrev pub Sets : {V : Type 0} → List (Path × V) → List (Path × V) → Path → V → Type 0
-Sets es after p v = (q : Path) → found after q ≡ cond (is_at (path_cmp p) q) (Some v) (found es q)
+Sets es after p v = (q : Path) → value_at after q ≡ cond (is_at (path_cmp p) q) (Some v) (value_at es q)
 
 module _ {V : Type 0} (es after : List (Path × V)) (p : Path) (v : V) (set : Sets es after p v) where
-  found_after : (q : Path) → found after q ≡ (if path_eq q p then Some v else found es q)
-  found_after q = set q ∙ ap (λ b. cond b (Some v) (found es q)) (at_path p q) ∙ by_test (path_eq q p)
+  found_after : (q : Path) → value_at after q ≡ (if path_eq q p then Some v else value_at es q)
+  found_after q = set q ∙ ap (λ b. cond b (Some v) (value_at es q)) (at_path p q) ∙ by_test (path_eq q p)
     where
-      by_test : (b : Bool) → cond b (Some v) (found es q) ≡ (if b then Some v else found es q)
+      by_test : (b : Bool) → cond b (Some v) (value_at es q) ≡ (if b then Some v else value_at es q)
       by_test true = refl
       by_test false = refl
 
-  changed_by : (P : Path → Option V → Type 0) → P p (Some v) → ((q : Path) → path_eq q p ≡ false → P q (found es q)) → (q : Path) → P q (found after q)
+  changed_by : (P : Path → Option V → Type 0) → P p (Some v) → ((q : Path) → path_eq q p ≡ false → P q (value_at es q)) → (q : Path) → P q (value_at after q)
   changed_by P here other q = subst (P q) (sym (found_after q)) (by_test (path_eq q p) refl)
     where
-      by_test : (b : Bool) → path_eq q p ≡ b → P q (if b then Some v else found es q)
+      by_test : (b : Bool) → path_eq q p ≡ b → P q (if b then Some v else value_at es q)
       by_test true e = subst (λ r. P r (Some v)) (sym ((path_eq_decides q p).0 e)) here
       by_test false e = other q e
 
@@ -102,7 +102,7 @@ joined_known hosts earlier now v after p h same same_loads t =
     subst₂ (λ (t : Tree ℕ) (v : Visits). IsVisited t earlier now v) (sym (same_context hosts p t)) (λ i. record { hosts = sym same i; loads = sym same_loads i }) h
 
 -- a new one
-pub joined_new : (hosts : Tree ℕ) (earlier : List (List Path)) (now : List Path) (v after : Visits) (p : Path) → IsVisited hosts earlier now v → after.loads ≡ v.loads → found v.hosts.entries p ≡ None
+pub joined_new : (hosts : Tree ℕ) (earlier : List (List Path)) (now : List Path) (v after : Visits) (p : Path) → IsVisited hosts earlier now v → after.loads ≡ v.loads → value_at v.hosts.entries p ≡ None
     → after.hosts.entries ≡ insert_entry path_cmp v.hosts.entries p (host_at v.hosts.entries (parent_of p)) → Sets v.hosts.entries after.hosts.entries p (host_at v.hosts.entries (parent_of p))
     → IsVisited (with_context hosts p) earlier now after
 joined_new hosts earlier now v after p h same f ins set =
@@ -117,8 +117,8 @@ joined_new hosts earlier now v after p h same f ins set =
           (h.host (parent_of p) ∙ sym (ap (λ b. if b then above else hosts.fields p) (path_eq_equiv.refl p)))
           (λ q e. h.host q ∙ sym (ap (λ b. if b then above else hosts.fields q) (path_eq_equiv.symm p q ∙ e)));
       seen = λ q. subst (λ ls. IsSeen (length earlier) (load_of earlier q) (list_any (path_eq q) now) (load_at ls q)) (sym loads) (h.seen q);
-      within = λ q s. still_there hosts p q (h.within q (ap (λ ls. is_some (found ls q)) (sym loads) ∙ s));
-      entered = λ q s. subst (λ ls. 1 ≤ (load_at ls q).count) (sym loads) (h.entered q (ap (λ ls. is_some (found ls q)) (sym loads) ∙ s));
+      within = λ q s. still_there hosts p q (h.within q (ap (λ ls. is_some (value_at ls q)) (sym loads) ∙ s));
+      entered = λ q s. subst (λ ls. 1 ≤ (load_at ls q).count) (sym loads) (h.entered q (ap (λ ls. is_some (value_at ls q)) (sym loads) ∙ s));
     } in
     subst (λ (t : Tree ℕ). IsVisited t earlier now after) (sym (new_context hosts p t)) visited
 
@@ -135,11 +135,11 @@ counted_visited hosts earlier now v after job p at h t same set =
       paths = ap keys_of hosts_are ∙ h.paths;
       sorted = h.sorted;
       host = λ q. ap (λ hs. (host_at hs q).0) hosts_are ∙ h.host q;
-      seen = changed_by v.loads.entries after.loads.entries p (with_job job l) set (λ q o. IsSeen (length earlier) (load_of earlier q) (list_any (path_eq q) (now ++ p ∷ [])) (unwrap_or o unseen))
+      seen = changed_by v.loads.entries after.loads.entries p (with_job job l) set (λ q o. IsSeen (length earlier) (load_of earlier q) (list_any (path_eq q) (now ++ p ∷ [])) (unwrap_or o no_load))
           (subst (λ m. IsSeen (length earlier) (load_of earlier p) m (with_job job l)) (sym (any_push_yes (path_eq p) now p (path_eq_equiv.refl p))) counted)
           (λ q e. subst (λ m. IsSeen (length earlier) (load_of earlier q) m (load_at v.loads.entries q)) (sym (any_push_no (path_eq q) now p e)) (h.seen q));
       within = changed_by v.loads.entries after.loads.entries p (with_job job l) set (λ q o. is_some o ≡ true → there hosts q ≡ true) (λ s. t) (λ q e. h.within q);
-      entered = changed_by v.loads.entries after.loads.entries p (with_job job l) set (λ q o. is_some o ≡ true → 1 ≤ (unwrap_or o unseen).count)
+      entered = changed_by v.loads.entries after.loads.entries p (with_job job l) set (λ q o. is_some o ≡ true → 1 ≤ (unwrap_or o no_load).count)
           (λ s. some_counted (length earlier) (load_of earlier p) (with_job job l) counted) (λ q e. h.entered q);
     }
 
@@ -156,25 +156,25 @@ moved_visited hosts earlier v after p host h same keys set =
           (sym (ap (λ b. if b then host.0 else hosts.fields p) (path_eq_equiv.refl p)))
           (λ q e. h.host q ∙ sym (ap (λ b. if b then host.0 else hosts.fields q) (path_eq_equiv.symm p q ∙ e)));
       seen = λ q. subst (λ ls. IsSeen (length earlier) (load_of earlier q) false (load_at ls q)) (sym loads) (h.seen q);
-      within = λ q s. h.within q (ap (λ ls. is_some (found ls q)) (sym loads) ∙ s);
-      entered = λ q s. subst (λ ls. 1 ≤ (load_at ls q).count) (sym loads) (h.entered q (ap (λ ls. is_some (found ls q)) (sym loads) ∙ s));
+      within = λ q s. h.within q (ap (λ ls. is_some (value_at ls q)) (sym loads) ∙ s);
+      entered = λ q s. subst (λ ls. 1 ≤ (load_at ls q).count) (sym loads) (h.entered q (ap (λ ls. is_some (value_at ls q)) (sym loads) ∙ s));
     }
 
-pub not_found : (hosts : Tree ℕ) (earlier : List (List Path)) (v : Visits) (p : Path) → IsVisited hosts earlier [] v → there hosts p ≡ true → found v.hosts.entries p ≡ None → ⊥
+pub not_found : (hosts : Tree ℕ) (earlier : List (List Path)) (v : Visits) (p : Path) → IsVisited hosts earlier [] v → there hosts p ≡ true → value_at v.hosts.entries p ≡ None → ⊥
 not_found hosts earlier v p h t f = let no : false ≡ true = ap is_some (sym f) ∙ there_is hosts v.hosts.entries p h.paths ∙ t in cc
 
 -- what has a load is kept as one
-pub seen_kept : (ls : List (Path × Load)) (p : Path) (l : Load) → l ≡ load_at ls p → (l.last ≡ 0 → ⊥) → is_some (found ls p) ≡ true
-seen_kept ls p l is some = by_found (found ls p) refl
+pub seen_kept : (ls : List (Path × Load)) (p : Path) (l : Load) → l ≡ load_at ls p → (l.last ≡ 0 → ⊥) → is_some (value_at ls p) ≡ true
+seen_kept ls p l is some = by_found (value_at ls p) refl
   where
-    by_found : (o : Option Load) → found ls p ≡ o → is_some (found ls p) ≡ true
+    by_found : (o : Option Load) → value_at ls p ≡ o → is_some (value_at ls p) ≡ true
     by_found (Some k) e = ap is_some e
-    by_found None e = absurd (some (ap (λ (l : Load). l.last) is ∙ ap (λ o. (unwrap_or o unseen).last) e))
+    by_found None e = absurd (some (ap (λ (l : Load). l.last) is ∙ ap (λ o. (unwrap_or o no_load).last) e))
 
-pub no_entry : {V : Type 0} (es : List (Path × V)) (p : Path) → is_some (found es p) ≡ false → found es p ≡ None
-no_entry {V} es p none = by_found (found es p) refl
+pub no_entry : {V : Type 0} (es : List (Path × V)) (p : Path) → is_some (value_at es p) ≡ false → value_at es p ≡ None
+no_entry {V} es p none = by_found (value_at es p) refl
   where
-    by_found : (o : Option V) → found es p ≡ o → found es p ≡ None
+    by_found : (o : Option V) → value_at es p ≡ o → value_at es p ≡ None
     by_found (Some v) e = absurd (true≢false (sym (ap is_some e) ∙ none))
     by_found None e = e
 

@@ -117,7 +117,7 @@ impl LiveStart {
     }
 
     /// What a whole run gives that ended here, with what its jobs gave.
-    pub fn finished(&self, alloc: Global, told: Told) -> Result<Finished, OutOfMemory>
+    pub fn finished_run(&self, alloc: Global, told: Told) -> Result<Finished, OutOfMemory>
         ensures { IfOk result (λ f. f ≡ record { results = told.results; made = told.made; names = told.names; places = self.now.start.places; shots = self.now.start.shots; loads = self.now.loads }) }
     {
         let places = self.visits.places(alloc)?;
@@ -134,11 +134,11 @@ impl LiveStart {
     }
 
     /// The contexts that a job of the last script entered, each with how many did. It looks at no other.
-    pub fn loaded(&self, alloc: Global) -> Result<(Seq<Place>, Seq<u64>), OutOfMemory>
+    pub fn places_with_loads(&self, alloc: Global) -> Result<(Seq<Place>, Seq<u64>), OutOfMemory>
         ensures paired { IfOk result (λ r. length r.0 ≡ length r.1) }
         ensures found { IfOk result (λ r. zip r.0 r.1 ≡ filter has_load (zip self.now.start.places self.now.loads)) }
     {
-        self.visits.loaded(alloc)
+        self.visits.places_with_loads(alloc)
     }
 
     /// The contexts on a host, each with how many jobs of the last script entered it.

@@ -33,7 +33,7 @@ pub fn run_script_at<R: Runner>(
 {
     let live = LiveStart::begin(alloc, start)?;
     let (live, told) = live.run(alloc, runner, script.copy(alloc)?)?;
-    live.finished(alloc, told)
+    live.finished_run(alloc, told)
 }
 
 /// Runs a script from the root alone, with its initial values.

@@ -47,5 +47,5 @@ pub fn give_tickets(
 {
     let calls = created.copy(alloc)?;
     head.reserve(calls.len())?;
-    Ok(head.created(calls))
+    Ok(head.add_created(calls))
 }

@@ -181,7 +181,7 @@ impl Visits {
     }
 
     /// The contexts that a job entered, with how many did.
-    pub fn loaded(&self, alloc: Global) -> Result<(Seq<Place>, Seq<u64>), OutOfMemory>
+    pub fn places_with_loads(&self, alloc: Global) -> Result<(Seq<Place>, Seq<u64>), OutOfMemory>
         requires { AreInOrder self.now }
         ensures paired { IfOk result (λ r. length r.0 ≡ length r.1) }
         ensures found { IfOk result (λ r. zip r.0 r.1 ≡ filter has_load (zip (map place_in self.now.hosts.entries) (loads_in self.now))) }

@@ -30,9 +30,9 @@ use Rattle.script_reader.specs.declared.told.Told.TheVariants.{Plain, Policed}
 use Rattle.script_reader.specs.declared.worded.Worded.{Worded}
 use Rattle.script_reader.specs.declared.worded.Worded.TheVariants as worded
 use Rattle.script_reader.specs.Elastics.{as_plain, as_policed, IsPart, lines_in, IsElastic}
-use Rattle.script_reader.specs.Judged.{requested, move_to, as_event, judged_event}
+use Rattle.script_reader.specs.Judged.{requested_call, move_to, as_event, judged_event}
 use Rattle.script_reader.specs.Policies.{balance_policy, drain_policy, policy_of, first_in_batch, judged_policy}
-use Rattle.script_reader.specs.Scripts.{judged}
+use Rattle.script_reader.specs.Scripts.{judgment}
 use Rattle.script_reader.specs.inner.ElasticProgressed.{elastic_progress_of, with_told, part_with, elastic_with}
 use Rattle.script_reader.specs.inner.ElasticSteps.{judged_now, IsElasticStep}
 use Rattle.script_reader.proofs.FitLemmas.{Fits, judged_fits, batch_fits, batch_full, batch_count}
@@ -151,12 +151,12 @@ no_hosts events l n e =
     by_line (Err f) k = cc
 
 -- hosts are said first
-hosts_first : (shape : Shape) (hosts : ℕ) (begun : Bool) (events : ℕ) (s : Said) (n : ℕ) → judged shape hosts begun events s ≡ Ok (Hosts n) → begun ≡ false
+hosts_first : (shape : Shape) (hosts : ℕ) (begun : Bool) (events : ℕ) (s : Said) (n : ℕ) → judgment shape hosts begun events s ≡ Ok (Hosts n) → begun ≡ false
 hosts_first shape hosts begun events Nothing n e = cc
 hosts_first shape hosts begun events Unknown n e = cc
 hosts_first shape hosts true events (Says (form.Hosts m)) n e = cc
 hosts_first shape hosts false events (Says (form.Hosts m)) n e = refl
-hosts_first shape hosts begun events (Says (form.Request name args)) n e = absurd (no_hosts events (requested shape name args) n e)
+hosts_first shape hosts begun events (Says (form.Request name args)) n e = absurd (no_hosts events (requested_call shape name args) n e)
 hosts_first shape hosts begun events (Says (form.Move steps to)) n e = absurd (no_hosts events (move_to hosts (path_of shape steps) (number_of to)) n e)
 hosts_first shape hosts begun events (Says form.Snapshot) n e = absurd (no_hosts events (Ok line.Snapshot) n e)
 hosts_first shape hosts begun events (Says form.Settle) n e = cc
@@ -167,7 +167,7 @@ no_parts P parts e = subst (All P) (sym e) (All-nil P)
 no_policy : (P : Policy → Type 0) (o : Option Policy) → o ≡ None → IfSome o P
 no_policy P o e = subst (λ x. IfSome x P) (sym e) tt
 
-taken_fits : (shape : Shape) (p : ElasticProgress) (s : Said) (t : Taken) → FitsParts shape p → judged shape p.plain.hosts p.plain.begun p.plain.events s ≡ Ok t → FitsParts shape (with_told p (Plain t))
+taken_fits : (shape : Shape) (p : ElasticProgress) (s : Said) (t : Taken) → FitsParts shape p → judgment shape p.plain.hosts p.plain.begun p.plain.events s ≡ Ok t → FitsParts shape (with_told p (Plain t))
 taken_fits shape p s Skipped h e = record { plain = h.plain; policy = h.policy; parts = h.parts; count = h.count; fresh = h.fresh }
 taken_fits shape p s (Hosts n) h e =
     let none = h.fresh (hosts_first shape p.plain.hosts p.plain.begun p.plain.events s n e) in
@@ -196,9 +196,9 @@ taken_fits shape p s Settle h e = record {
 -- ---- each line
 
 told_fits : (shape : Shape) (p : ElasticProgress) (w : Worded) (t : Told) → FitsParts shape p → judged_now shape p w ≡ Ok t → FitsParts shape (with_told p t)
-told_fits shape p (worded.Plain s) t h e = by_taken (judged shape p.plain.hosts p.plain.begun p.plain.events s) refl e
+told_fits shape p (worded.Plain s) t h e = by_taken (judgment shape p.plain.hosts p.plain.begun p.plain.events s) refl e
   where
-    by_taken : (r : Result Taken Fault) → judged shape p.plain.hosts p.plain.begun p.plain.events s ≡ r → as_plain r ≡ Ok t → FitsParts shape (with_told p t)
+    by_taken : (r : Result Taken Fault) → judgment shape p.plain.hosts p.plain.begun p.plain.events s ≡ r → as_plain r ≡ Ok t → FitsParts shape (with_told p t)
     by_taken (Ok x) j k = (let same : Plain x ≡ t = cc in subst (λ z. FitsParts shape (with_told p z)) same (taken_fits shape p s x h j))
     by_taken (Err f) j k = cc
 told_fits shape p (worded.Policy f) t h e = by_policy (judged_policy p.plain.hosts p.plain.events p.under_way f) refl e

@@ -17,11 +17,11 @@ use Rattle.script_reader.specs.declared.told.Told.{Told}
 use Rattle.script_reader.specs.declared.told.Told.TheVariants.{Plain, Policed}
 use Rattle.script_reader.specs.declared.worded.Worded.{Worded}
 use Rattle.script_reader.specs.Elastics.{IsOnlyWorded, is_event_line, event_count, told_hosts, last_lines, last_policy, last_part, ended_parts, judged_told, Leads, IsReadElastic, IsElasticOf, IsElasticAnswer}
-use Rattle.script_reader.specs.Scripts.{open_batch, closed_batches, refused}
+use Rattle.script_reader.specs.Scripts.{open_batch, closed_batches, error_at}
 use Rattle.script_reader.specs.inner.ElasticProgressed.{elastic_progress_of, with_told}
 use Rattle.script_reader.specs.inner.ElasticSteps.{judged_now, IsElasticStep, IsElasticRefused, IsElasticStop}
 use Rattle.script_reader.specs.inner.Gives.{Gives}
-use Rattle.script_reader.specs.inner.Steps.{stopped}
+use Rattle.script_reader.specs.inner.Steps.{error_of_refusal}
 
 -- these lines were read, the last one first, and these ones are left
 pub record AreToldTo (shape : Shape) (lines : List (List ℕ)) (before : List Told) (left : List (List ℕ)) : Type 0 where
@@ -29,7 +29,7 @@ pub record AreToldTo (shape : Shape) (lines : List (List ℕ)) (before : List To
   pub whole : (r : Result Elastic ScriptError) → IsReadElastic shape [] lines r → IsReadElastic shape before left r
 
 abbrev After : Shape → List Told → List (List ℕ) → Result Elastic ScriptError → Result Told Fault → Type 0
-After shape before left r x = Leads x (λ t. IsReadElastic shape (t ∷ before) left r) (λ f. r ≡ Err (refused f (length before + 1)))
+After shape before left r x = Leads x (λ t. IsReadElastic shape (t ∷ before) left r) (λ f. r ≡ Err (error_at f (length before + 1)))
 
 line_told : (shape : Shape) (lines left : List (List ℕ)) (before : List Told) (line : List ℕ) (w : Worded) (t : Told) → AreToldTo shape lines before (line ∷ left) → IsOnlyWorded line w → judged_told shape before w ≡ Ok t → AreToldTo shape lines (t ∷ before) left
 line_told shape lines left before line w t h o e = record {
@@ -42,7 +42,7 @@ line_told shape lines left before line w t h o e = record {
 
 -- ---- what is said of an error
 
-refused_stop : (shape : Shape) (line : List ℕ) (before : ElasticProgress) (n : ℕ) (w : Worded) (f : Fault) → IsOnlyWorded line w → judged_now shape before w ≡ Err f → IsElasticStop shape line before n (refused f n)
+refused_stop : (shape : Shape) (line : List ℕ) (before : ElasticProgress) (n : ℕ) (w : Worded) (f : Fault) → IsOnlyWorded line w → judged_now shape before w ≡ Err f → IsElasticStop shape line before n (error_at f n)
 refused_stop shape line before n w fault.UnknownCommand o e = record { worded = w; fault = fault.UnknownCommand; says = o; judged_is = e; error_is = refl }
 refused_stop shape line before n w fault.UnknownEvent o e = record { worded = w; fault = fault.UnknownEvent; says = o; judged_is = e; error_is = refl }
 refused_stop shape line before n w fault.ArgCount o e = record { worded = w; fault = fault.ArgCount; says = o; judged_is = e; error_is = refl }
@@ -54,7 +54,7 @@ refused_stop shape line before n w fault.TooMany o e = record { worded = w; faul
 refused_stop shape line before n w fault.PolicyLate o e = record { worded = w; fault = fault.PolicyLate; says = o; judged_is = e; error_is = refl }
 refused_stop shape line before n w fault.CountRange o e = record { worded = w; fault = fault.CountRange; says = o; judged_is = e; error_is = refl }
 
-pub stopped_stop : (shape : Shape) (line : List ℕ) (before : ElasticProgress) (n : ℕ) (w : Worded) (r : Refusal) → IsOnlyWorded line w → Gives (Err r) (judged_now shape before w) → IsElasticStop shape line before n (stopped r n)
+pub stopped_stop : (shape : Shape) (line : List ℕ) (before : ElasticProgress) (n : ℕ) (w : Worded) (r : Refusal) → IsOnlyWorded line w → Gives (Err r) (judged_now shape before w) → IsElasticStop shape line before n (error_of_refusal r n)
 stopped_stop shape line before n w (refusal.Fault f) o e = refused_stop shape line before n w f o e
 stopped_stop shape line before n w (refusal.OutOfMemory _) o e = tt
 
@@ -115,8 +115,8 @@ stop_is shape text left before line p n e h q m s = record {
     judged_is : judged_told shape before s.worded ≡ Err s.fault
     judged_is = subst (λ z. judged_now shape z s.worded ≡ Err s.fault) q s.judged_is
 
-    error_is : e ≡ refused s.fault (length before + 1)
-    error_is = s.error_is ∙ ap (refused s.fault) m
+    error_is : e ≡ error_at s.fault (length before + 1)
+    error_is = s.error_is ∙ ap (error_at s.fault) m
 
 stop_answer : (shape : Shape) (text : List ℕ) (left : List (List ℕ)) (before : List Told) (line : List ℕ) (p : ElasticProgress) (n : ℕ) (e : ScriptError) → AreToldTo shape (lines_of text) before (line ∷ left) → p ≡ elastic_progress_of before
     → n ≡ length before + 1 → IsElasticStop shape line p n e → IsElasticAnswer shape text (Err e)

@@ -35,9 +35,9 @@ use Rattle.script_reader.specs.declared.said.Said.{Said}
 use Rattle.script_reader.specs.declared.said.Said.TheVariants.{Nothing, Unknown, Says}
 use Rattle.script_reader.specs.declared.taken.Taken.{Taken}
 use Rattle.script_reader.specs.declared.taken.Taken.TheVariants.{Skipped, Hosts, Event, Settle}
-use Rattle.script_reader.specs.Judged.{value_of, values_of, call_with, call_of, has_name, params_in, call_at, requested, move_to, as_event, judged_event, judged_hosts, judged_form}
+use Rattle.script_reader.specs.Judged.{value_of, values_of, call_with, call_of, has_name, params_in, call_at, requested_call, move_to, as_event, judged_event, judged_hosts, judged_form}
 use Rattle.script_reader.specs.inner.Progressed.{with_taken}
-use Rattle.script_reader.specs.Scripts.{judged, with_batch, script_with}
+use Rattle.script_reader.specs.Scripts.{judgment, with_batch, script_with}
 use Rattle.script_reader.specs.inner.Steps.{IsStep}
 
 pub record Fits (shape : Shape) (p : Progress) : Type 0 where
@@ -104,7 +104,7 @@ call_fits shape hosts event info ls l at e =
         let same : line.Request (record { event = event; args = vs; generation = 0 }) ≡ l = cc in
         subst (FitsLine shape hosts) same (record { event = info; is_event = at; kinds = value_kinds info.params ls vs n o }, refl)
 
-requested_fits : (shape : Shape) (hosts : ℕ) (name : List ℕ) (ls : List Literal) (l : Line) → requested shape name ls ≡ Ok l → FitsLine shape hosts l
+requested_fits : (shape : Shape) (hosts : ℕ) (name : List ℕ) (ls : List Literal) (l : Line) → requested_call shape name ls ≡ Ok l → FitsLine shape hosts l
 requested_fits shape hosts name ls l e = by_event (position (has_name name) shape.events) refl e
   where
     by_event : (o : Option ℕ) → position (has_name name) shape.events ≡ o → call_at shape o ls ≡ Ok l → FitsLine shape hosts l
@@ -220,12 +220,12 @@ settled_fits shape p h = record {
 
 form_fits : (shape : Shape) (p : Progress) (f : Form) (t : Taken) → Fits shape p → judged_form shape p.hosts p.begun p.events f ≡ Ok t → Fits shape (with_taken p t)
 form_fits shape p (form.Hosts n) t h e = hosts_fit shape p (number_of n) t h e
-form_fits shape p (form.Request name ls) t h e = judged_event_fits shape p (requested shape name ls) t h (λ l k. requested_fits shape p.hosts name ls l k) e
+form_fits shape p (form.Request name ls) t h e = judged_event_fits shape p (requested_call shape name ls) t h (λ l k. requested_fits shape p.hosts name ls l k) e
 form_fits shape p (form.Move steps to) t h e = judged_event_fits shape p (move_to p.hosts (path_of shape steps) (number_of to)) t h (λ l k. move_fits shape p.hosts steps (number_of to) l k) e
 form_fits shape p form.Snapshot t h e = judged_event_fits shape p (Ok line.Snapshot) t h (λ l k. (let same : line.Snapshot ≡ l = cc in subst (FitsLine shape p.hosts) same tt)) e
 form_fits shape p form.Settle t h e = (let same : Settle ≡ t = cc in subst (λ z. Fits shape (with_taken p z)) same (settled_fits shape p h))
 
-pub judged_fits : (shape : Shape) (p : Progress) (s : Said) (t : Taken) → Fits shape p → judged shape p.hosts p.begun p.events s ≡ Ok t → Fits shape (with_taken p t)
+pub judged_fits : (shape : Shape) (p : Progress) (s : Said) (t : Taken) → Fits shape p → judgment shape p.hosts p.begun p.events s ≡ Ok t → Fits shape (with_taken p t)
 judged_fits shape p Nothing t h e = (let same : Skipped ≡ t = cc in subst (λ z. Fits shape (with_taken p z)) same h)
 judged_fits shape p Unknown t h e = cc
 judged_fits shape p (Says f) t h e = form_fits shape p f t h e

@@ -16,8 +16,8 @@ use Rattle.script_reader.specs.declared.said.Said.TheVariants.{Says}
 use Rattle.script_reader.specs.declared.taken.Taken.{Taken}
 use Rattle.script_reader.specs.declared.taken.Taken.TheVariants.{Skipped, Hosts, Event, Settle}
 use Rattle.script_reader.specs.Judged.{nothing_earlier, script_earlier, is_event, hosts_of, has_begun, event_lines}
-use Rattle.script_reader.specs.Laws.{joined, joined_text}
-use Rattle.script_reader.specs.Scripts.{IsSaid, judged, judged_after, open_batch, closed_batches, with_batch, script_of, Goes, IsRead, refused}
+use Rattle.script_reader.specs.Laws.{joint_script, joined_text}
+use Rattle.script_reader.specs.Scripts.{IsSaid, judgment, judged_after, open_batch, closed_batches, with_batch, script_of, Goes, IsRead, error_at}
 use Rattle.script_reader.proofs.FitLemmas.{batch_count}
 
 -- ---- the lines of the text
@@ -57,14 +57,14 @@ record GoesOn (shape : Shape) (earlier : Earlier) (before : List Taken) (lines :
 
 goes_line : (shape : Shape) (earlier : Earlier) (before : List Taken) (l : List ℕ) (ls : List (List ℕ)) (s : Script) (said : Said) (x : Result Taken Fault)
     → ((t : Taken) → IsRead shape earlier (t ∷ before) ls (Ok s) → GoesOn shape earlier (t ∷ before) ls s) → IsSaid l said → judged_after shape earlier before said ≡ x
-    → Goes x (λ t. IsRead shape earlier (t ∷ before) ls (Ok s)) (λ f. Ok s ≡ Err (refused f (length before + 1))) → GoesOn shape earlier before (l ∷ ls) s
+    → Goes x (λ t. IsRead shape earlier (t ∷ before) ls (Ok s)) (λ f. Ok s ≡ Err (error_at f (length before + 1))) → GoesOn shape earlier before (l ∷ ls) s
 goes_line shape earlier before l ls s said (Err f) rec is j g = cc
 goes_line shape earlier before l ls s said (Ok t) rec is j g =
     let w = rec t g in
     record {
       all = w.all;
       script_is = w.script_is;
-      more = λ left r k. (said, is, subst (λ y. Goes y (λ u. IsRead shape earlier (u ∷ before) (ls ++ left) r) (λ f. r ≡ Err (refused f (length before + 1)))) (sym j) (w.more left r k));
+      more = λ left r k. (said, is, subst (λ y. Goes y (λ u. IsRead shape earlier (u ∷ before) (ls ++ left) r) (λ f. r ≡ Err (error_at f (length before + 1)))) (sym j) (w.more left r k));
     }
 
 goes_on : (shape : Shape) (earlier : Earlier) (before : List Taken) (ls : List (List ℕ)) (s : Script) → IsRead shape earlier before ls (Ok s) → GoesOn shape earlier before ls s
@@ -139,19 +139,19 @@ module _ (us : List Taken) where
   all_behind vs = (λ i. with_batch (closed_behind vs i) (open_behind vs i)) ∙ batch_behind (closed_batches vs) (open_batch vs)
 
   judged_behind : (shape : Shape) (vs : List Taken) (s : Said) → judged_after shape nothing_earlier (behind vs) s ≡ judged_after shape then_ vs s
-  judged_behind shape vs s = λ i. judged shape (hosts_behind vs i) (begun_behind vs i) (count_behind vs i) s
+  judged_behind shape vs s = λ i. judgment shape (hosts_behind vs i) (begun_behind vs i) (count_behind vs i) s
 
   abbrev with_front : Script → Script
   with_front b = record { hosts = b.hosts; batches = front ++ b.batches }
 
   line_behind : (shape : Shape) (vs : List Taken) (l : List ℕ) (ls : List (List ℕ)) (b : Script) (said : Said) (x : Result Taken Fault)
       → ((t : Taken) → IsRead shape then_ (t ∷ vs) ls (Ok b) → IsRead shape nothing_earlier (behind (t ∷ vs)) ls (Ok (with_front b))) → IsSaid l said → judged_after shape then_ vs said ≡ x
-      → Goes x (λ t. IsRead shape then_ (t ∷ vs) ls (Ok b)) (λ f. Ok b ≡ Err (refused f (length vs + 1))) → IsRead shape nothing_earlier (behind vs) (l ∷ ls) (Ok (with_front b))
+      → Goes x (λ t. IsRead shape then_ (t ∷ vs) ls (Ok b)) (λ f. Ok b ≡ Err (error_at f (length vs + 1))) → IsRead shape nothing_earlier (behind vs) (l ∷ ls) (Ok (with_front b))
   line_behind shape vs l ls b said (Err f) rec is j g = cc
   line_behind shape vs l ls b said (Ok t) rec is j g = (
     said,
     is,
-    subst (λ y. Goes y (λ u. IsRead shape nothing_earlier (u ∷ behind vs) ls (Ok (with_front b))) (λ f. Ok (with_front b) ≡ Err (refused f (length (behind vs) + 1)))) (sym (judged_behind shape vs said ∙ j)) (rec t g),
+    subst (λ y. Goes y (λ u. IsRead shape nothing_earlier (u ∷ behind vs) ls (Ok (with_front b))) (λ f. Ok (with_front b) ≡ Err (error_at f (length (behind vs) + 1)))) (sym (judged_behind shape vs said ∙ j)) (rec t g),
   )
 
   read_behind : (shape : Shape) (vs : List Taken) (ls : List (List ℕ)) (b : Script) → IsRead shape then_ vs ls (Ok b) → IsRead shape nothing_earlier (behind vs) ls (Ok (with_front b))
@@ -166,12 +166,12 @@ settle_said : IsSaid (codes "settle") (Says form.Settle)
 settle_said = (refl, record { cut = ([], record { spelled = refl; form = refl; ends = refl }, refl); form_is = refl })
 
 pub read_joined : (shape : Shape) (first second : List ℕ) (a b : Script) → IsRead shape nothing_earlier [] (lines_of first) (Ok a) → IsRead shape (script_earlier a.hosts (sum_by length a.batches)) [] (lines_of second) (Ok b)
-    → IsRead shape nothing_earlier [] (lines_of (joined_text first second)) (Ok (joined a b))
+    → IsRead shape nothing_earlier [] (lines_of (joined_text first second)) (Ok (joint_script a b))
 read_joined shape first second a b h k =
     let w = goes_on shape nothing_earlier [] (lines_of first) a h in
     let earlier : script_earlier a.hosts (sum_by length a.batches) ≡ then_ w.all =
     ap (λ s. script_earlier s.hosts (sum_by length s.batches)) (sym w.script_is) ∙ ap (script_earlier (hosts_of nothing_earlier w.all)) (lines_count w.all) in
     let second_read = read_behind w.all shape [] (lines_of second) b (subst (λ e. IsRead shape e [] (lines_of second) (Ok b)) earlier k) in
-    let both : Ok (with_front w.all b) ≡ Ok (joined a b) = ap (λ s. Ok (record { hosts = b.hosts; batches = s.batches ++ b.batches })) w.script_is in
-    subst (λ ls. IsRead shape nothing_earlier [] ls (Ok (joined a b))) (sym (joined_lines first second))
-    (w.more (codes "settle" ∷ lines_of second) (Ok (joined a b)) (Says form.Settle, settle_said, subst (IsRead shape nothing_earlier (Settle ∷ w.all) (lines_of second)) both second_read))
+    let both : Ok (with_front w.all b) ≡ Ok (joint_script a b) = ap (λ s. Ok (record { hosts = b.hosts; batches = s.batches ++ b.batches })) w.script_is in
+    subst (λ ls. IsRead shape nothing_earlier [] ls (Ok (joint_script a b))) (sym (joined_lines first second))
+    (w.more (codes "settle" ∷ lines_of second) (Ok (joint_script a b)) (Says form.Settle, settle_said, subst (IsRead shape nothing_earlier (Settle ∷ w.all) (lines_of second)) both second_read))

@@ -19,7 +19,7 @@ use Rattle.script_reader.specs.inner.Begins.{first_run, is_form_word}
 use Rattle.script_reader.specs.Judged.{nothing_earlier, is_event, hosts_of, has_begun, event_lines}
 use Rattle.script_reader.specs.Pieces.{without_blanks}
 use Rattle.script_reader.specs.Policies.{policy_word, HasNoPolicyForm}
-use Rattle.script_reader.specs.Scripts.{IsSaid, judged, judged_after, open_batch, closed_batches, with_batch, script_of, Goes, IsRead, refused}
+use Rattle.script_reader.specs.Scripts.{IsSaid, judgment, judged_after, open_batch, closed_batches, with_batch, script_of, Goes, IsRead, error_at}
 use Rattle.script_reader.proofs.FormLemmas.{form_words}
 use Rattle.script_reader.proofs.FrontLemmas.{front_run}
 use Rattle.script_reader.proofs.PolicyLemmas.{policy_words, no_form_word, not_skipped}
@@ -70,11 +70,11 @@ elastic_same ts =
     }
 
 judged_same : (shape : Shape) (ts : List Taken) (s : Said) → judged_told shape (plain ts) (worded.Plain s) ≡ as_plain (judged_after shape nothing_earlier ts s)
-judged_same shape ts s = λ i. as_plain (judged shape (hosts_same ts i) (begun_same ts i) (count_same ts i) s)
+judged_same shape ts s = λ i. as_plain (judgment shape (hosts_same ts i) (begun_same ts i) (count_same ts i) s)
 
 -- ---- a line that is taken has no policy's form
 
-no_policy_form : (shape : Shape) (hosts : ℕ) (begun : Bool) (events : ℕ) (line : List ℕ) (s : Said) (t : Taken) → IsSaid line s → judged shape hosts begun events s ≡ Ok t → HasNoPolicyForm line
+no_policy_form : (shape : Shape) (hosts : ℕ) (begun : Bool) (events : ℕ) (line : List ℕ) (s : Said) (t : Taken) → IsSaid line s → judgment shape hosts begun events s ≡ Ok t → HasNoPolicyForm line
 no_policy_form shape hosts begun events line Nothing t is j f k =
     false≢true (sym (not_skipped line (policy_word f) (front_run (without_blanks line) (policy_word f) k.cut.0 k.cut.1) (policy_words f)) ∙ is)
 no_policy_form shape hosts begun events line Unknown t is j f k = cc
@@ -90,12 +90,12 @@ ReadPlain shape ts ls s = IsReadElastic shape (plain ts) ls (Ok (plain_elastic s
 
 one_plain : (shape : Shape) (ts : List Taken) (l : List ℕ) (ls : List (List ℕ)) (s : Script) (said : Said) (r : Result Taken Fault)
     → ((t : Taken) → IsRead shape nothing_earlier (t ∷ ts) ls (Ok s) → ReadPlain shape (t ∷ ts) ls s) → IsSaid l said → judged_after shape nothing_earlier ts said ≡ r
-    → Goes r (λ t. IsRead shape nothing_earlier (t ∷ ts) ls (Ok s)) (λ f. Ok s ≡ Err (refused f (length ts + 1))) → ReadPlain shape ts (l ∷ ls) s
+    → Goes r (λ t. IsRead shape nothing_earlier (t ∷ ts) ls (Ok s)) (λ f. Ok s ≡ Err (error_at f (length ts + 1))) → ReadPlain shape ts (l ∷ ls) s
 one_plain shape ts l ls s said (Err f) more is j g = cc
 one_plain shape ts l ls s said (Ok t) more is j g = (
   worded.Plain said,
   (is, no_policy_form shape (hosts_of nothing_earlier ts) (has_begun nothing_earlier ts) (event_lines nothing_earlier ts) l said t is j),
-  subst (λ x. Leads x (λ u. IsReadElastic shape (u ∷ plain ts) ls (Ok (plain_elastic s))) (λ f. Ok (plain_elastic s) ≡ Err (refused f (length (plain ts) + 1)))) (sym (judged_same shape ts said ∙ ap as_plain j)) (more t g),
+  subst (λ x. Leads x (λ u. IsReadElastic shape (u ∷ plain ts) ls (Ok (plain_elastic s))) (λ f. Ok (plain_elastic s) ≡ Err (error_at f (length (plain ts) + 1)))) (sym (judged_same shape ts said ∙ ap as_plain j)) (more t g),
 )
 
 pub read_plain : (shape : Shape) (ts : List Taken) (ls : List (List ℕ)) (s : Script) → IsRead shape nothing_earlier ts ls (Ok s) → ReadPlain shape ts ls s

@@ -14,11 +14,11 @@ use Rattle.script_reader.specs.declared.taken.Taken.TheVariants.{Skipped, Hosts,
 use Rattle.std.specs.Prelude.{count_by}
 use Rattle.script_reader.specs.Judged.{is_event, hosts_of, event_lines}
 use Rattle.script_reader.specs.inner.Progressed.{progress_of, with_taken}
-use Rattle.script_reader.specs.Scripts.{closed_batches, open_batch, judged, IsOnlySaid, judged_after, Goes, IsRead, refused}
+use Rattle.script_reader.specs.Scripts.{closed_batches, open_batch, judgment, IsOnlySaid, judged_after, Goes, IsRead, error_at}
 use Rattle.script_reader.specs.declared.refusal.Refusal.{Refusal}
 use Rattle.script_reader.specs.declared.refusal.Refusal.TheVariants as refusal
 use Rattle.script_reader.specs.inner.Gives.{Gives}
-use Rattle.script_reader.specs.inner.Steps.{IsStep, IsStop, stopped}
+use Rattle.script_reader.specs.inner.Steps.{IsStep, IsStop, error_of_refusal}
 
 -- these lines were read, the last one first, and these ones are left
 pub record AreReadTo (shape : Shape) (earlier : Earlier) (lines : List (List ℕ)) (before : List Taken) (left : List (List ℕ)) : Type 0 where
@@ -26,7 +26,7 @@ pub record AreReadTo (shape : Shape) (earlier : Earlier) (lines : List (List ℕ
   pub whole : (r : Result Script ScriptError) → IsRead shape earlier [] lines r → IsRead shape earlier before left r
 
 abbrev After : Shape → Earlier → List Taken → List (List ℕ) → Result Script ScriptError → Result Taken Fault → Type 0
-After shape earlier before left r x = Goes x (λ t. IsRead shape earlier (t ∷ before) left r) (λ f. r ≡ Err (refused f (length before + 1)))
+After shape earlier before left r x = Goes x (λ t. IsRead shape earlier (t ∷ before) left r) (λ f. r ≡ Err (error_at f (length before + 1)))
 
 pub line_read : (shape : Shape) (earlier : Earlier) (lines left : List (List ℕ)) (before : List Taken) (line : List ℕ) (said : Said) (t : Taken) → AreReadTo shape earlier lines before (line ∷ left) → IsOnlySaid line said → judged_after shape earlier before said ≡ Ok t
     → AreReadTo shape earlier lines (t ∷ before) left
@@ -40,7 +40,7 @@ line_read shape earlier lines left before line said t h o e = record {
 
 -- ---- what is said of an error
 
-pub refused_stop : (shape : Shape) (line : List ℕ) (before : Progress) (n : ℕ) (s : Said) (f : Fault) → IsOnlySaid line s → judged shape before.hosts before.begun before.events s ≡ Err f → IsStop shape line before n (refused f n)
+pub refused_stop : (shape : Shape) (line : List ℕ) (before : Progress) (n : ℕ) (s : Said) (f : Fault) → IsOnlySaid line s → judgment shape before.hosts before.begun before.events s ≡ Err f → IsStop shape line before n (error_at f n)
 refused_stop shape line before n s fault.UnknownCommand o e = record { said = s; fault = fault.UnknownCommand; says = o; judged_is = e; error_is = refl }
 refused_stop shape line before n s fault.UnknownEvent o e = record { said = s; fault = fault.UnknownEvent; says = o; judged_is = e; error_is = refl }
 refused_stop shape line before n s fault.ArgCount o e = record { said = s; fault = fault.ArgCount; says = o; judged_is = e; error_is = refl }
@@ -52,7 +52,7 @@ refused_stop shape line before n s fault.TooMany o e = record { said = s; fault 
 refused_stop shape line before n s fault.PolicyLate o e = record { said = s; fault = fault.PolicyLate; says = o; judged_is = e; error_is = refl }
 refused_stop shape line before n s fault.CountRange o e = record { said = s; fault = fault.CountRange; says = o; judged_is = e; error_is = refl }
 
-pub stopped_stop : (shape : Shape) (line : List ℕ) (before : Progress) (n : ℕ) (s : Said) (r : Refusal) → IsOnlySaid line s → Gives (Err r) (judged shape before.hosts before.begun before.events s) → IsStop shape line before n (stopped r n)
+pub stopped_stop : (shape : Shape) (line : List ℕ) (before : Progress) (n : ℕ) (s : Said) (r : Refusal) → IsOnlySaid line s → Gives (Err r) (judgment shape before.hosts before.begun before.events s) → IsStop shape line before n (error_of_refusal r n)
 stopped_stop shape line before n s (refusal.Fault f) o e = refused_stop shape line before n s f o e
 stopped_stop shape line before n s (refusal.OutOfMemory _) o e = tt
 

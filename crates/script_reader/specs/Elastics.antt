@@ -20,7 +20,7 @@ use Rattle.script_reader.specs.declared.worded.Worded.{Worded}
 use Rattle.script_reader.specs.declared.worded.Worded.TheVariants as worded
 use Rattle.script_reader.specs.Judged.{is_event, is_said}
 use Rattle.script_reader.specs.Policies.{HasPolicyForm, HasNoPolicyForm, judged_policy}
-use Rattle.script_reader.specs.Scripts.{IsSaid, judged, open_batch, closed_batches, with_batch, refused}
+use Rattle.script_reader.specs.Scripts.{IsSaid, judgment, open_batch, closed_batches, with_batch, error_at}
 
 -- what a line says: a policy, or else what it says in a script without policies
 abbrev pub IsWorded : List ℕ → Worded → Type 0
@@ -74,7 +74,7 @@ as_policed (Ok p) = Ok (Policed p)
 as_policed (Err f) = Err f
 
 abbrev pub judged_worded : Shape → ℕ → Bool → ℕ → Bool → Worded → Result Told Fault
-judged_worded shape hosts begun events late (worded.Plain said) = as_plain (judged shape hosts begun events said)
+judged_worded shape hosts begun events late (worded.Plain said) = as_plain (judgment shape hosts begun events said)
 judged_worded shape hosts begun events late (worded.Policy form) = as_policed (judged_policy hosts events late form)
 
 abbrev pub judged_told : Shape → List Told → Worded → Result Told Fault
@@ -117,7 +117,7 @@ Leads (Err f) P Q = Q f
 abbrev pub IsReadElastic : Shape → List Told → List (List ℕ) → Result Elastic ScriptError → Type 0
 IsReadElastic shape before [] r = r ≡ Ok (elastic_of before)
 IsReadElastic shape before (l ∷ ls) r =
-    (w : Worded) × IsWorded l w × Leads (judged_told shape before w) (λ t. IsReadElastic shape (t ∷ before) ls r) (λ f. r ≡ Err (refused f (length before + 1)))
+    (w : Worded) × IsWorded l w × Leads (judged_told shape before w) (λ t. IsReadElastic shape (t ∷ before) ls r) (λ f. r ≡ Err (error_at f (length before + 1)))
 
 -- what a text gives, and that it gives nothing else
 pub record IsElasticOf (shape : Shape) (text : List ℕ) (r : Result Elastic ScriptError) : Type 0 where

@@ -93,8 +93,8 @@ call_at shape None args = Err UnknownEvent
 call_at shape (Some event) args = call_of event (params_in (slice_get shape.events event)) args
 
 -- the call of the event of that name
-abbrev pub requested : Shape → List ℕ → List Literal → Result Line Fault
-requested shape name args = call_at shape (position (has_name name) shape.events) args
+abbrev pub requested_call : Shape → List ℕ → List Literal → Result Line Fault
+requested_call shape name args = call_at shape (position (has_name name) shape.events) args
 
 -- ---- moves
 
@@ -119,7 +119,7 @@ judged_hosts begun n = if begun then Err HostsLate else if nat_le 1 n && nat_le 
 
 abbrev pub judged_form : Shape → ℕ → Bool → ℕ → Form → Result Taken Fault
 judged_form shape hosts begun events (form.Hosts n) = judged_hosts begun (number_of n)
-judged_form shape hosts begun events (form.Request name args) = judged_event events (requested shape name args)
+judged_form shape hosts begun events (form.Request name args) = judged_event events (requested_call shape name args)
 judged_form shape hosts begun events (form.Move steps to) = judged_event events (move_to hosts (path_of shape steps) (number_of to))
 judged_form shape hosts begun events form.Snapshot = judged_event events (Ok line.Snapshot)
 judged_form shape hosts begun events form.Settle = Ok Settle

@@ -2,7 +2,7 @@
 use Rattle.std.specs.Prelude.{◌≡◌, ℕ, Bool, true, false, not, ◌||◌, ◌&&◌, ◌==◌, if◌then◌else◌, List, [], ◌∷◌, ◌++◌, All}
 use Rattle.std.specs.List.{list_all}
 use Rattle.wave_base.specs.Text.{IsPrintable}
-use Rattle.wave_base.specs.Text.{quoted}
+use Rattle.wave_base.specs.Text.{quoted_text}
 use Rattle.wave_text.specs.Words.{is_blank}
 use Rattle.script_reader.specs.declared.piece.Piece.{Piece}
 use Rattle.script_reader.specs.declared.piece.Piece.TheVariants.{Run, Text, Open, Close, Comma}
@@ -23,7 +23,7 @@ is_run (b ∷ bs) = is_solid b && list_all is_solid bs
 -- how a piece is written
 abbrev pub piece_text : Piece → List ℕ
 piece_text (Run bs) = bs
-piece_text (Text t) = quoted t
+piece_text (Text t) = quoted_text t
 piece_text Open = 40 ∷ []
 piece_text Close = 41 ∷ []
 piece_text Comma = 44 ∷ []

@@ -31,13 +31,13 @@ abbrev pub IsOnlySaid : List ℕ → Said → Type 0
 IsOnlySaid line said = IsSaid line said × ((other : Said) → IsSaid line other → other ≡ said)
 
 -- what is made of it, where so many hosts and event lines stand before
-abbrev pub judged : Shape → ℕ → Bool → ℕ → Said → Result Taken Fault
-judged shape hosts begun events Nothing = Ok Skipped
-judged shape hosts begun events Unknown = Err fault.UnknownCommand
-judged shape hosts begun events (Says form) = judged_form shape hosts begun events form
+abbrev pub judgment : Shape → ℕ → Bool → ℕ → Said → Result Taken Fault
+judgment shape hosts begun events Nothing = Ok Skipped
+judgment shape hosts begun events Unknown = Err fault.UnknownCommand
+judgment shape hosts begun events (Says form) = judged_form shape hosts begun events form
 
 abbrev pub judged_after : Shape → Earlier → List Taken → Said → Result Taken Fault
-judged_after shape earlier before said = judged shape (hosts_of earlier before) (has_begun earlier before) (event_lines earlier before) said
+judged_after shape earlier before said = judgment shape (hosts_of earlier before) (has_begun earlier before) (event_lines earlier before) said
 
 -- ---- batches, the last line first
 
@@ -68,17 +68,17 @@ script_of earlier lines = script_with (hosts_of earlier lines) (closed_batches l
 
 -- ---- the whole
 
-abbrev pub refused : Fault → ℕ → ScriptError
-refused fault.UnknownCommand n = error.UnknownCommand n
-refused fault.UnknownEvent n = error.UnknownEvent n
-refused fault.ArgCount n = error.ArgCount n
-refused fault.ArgType n = error.ArgType n
-refused fault.BadPath n = error.BadPath n
-refused fault.HostRange n = error.HostRange n
-refused fault.HostsLate n = error.HostsLate n
-refused fault.TooMany n = error.TooMany n
-refused fault.PolicyLate n = error.PolicyLate n
-refused fault.CountRange n = error.CountRange n
+abbrev pub error_at : Fault → ℕ → ScriptError
+error_at fault.UnknownCommand n = error.UnknownCommand n
+error_at fault.UnknownEvent n = error.UnknownEvent n
+error_at fault.ArgCount n = error.ArgCount n
+error_at fault.ArgType n = error.ArgType n
+error_at fault.BadPath n = error.BadPath n
+error_at fault.HostRange n = error.HostRange n
+error_at fault.HostsLate n = error.HostsLate n
+error_at fault.TooMany n = error.TooMany n
+error_at fault.PolicyLate n = error.PolicyLate n
+error_at fault.CountRange n = error.CountRange n
 
 -- a line is taken, or refused
 abbrev pub Goes : Result Taken Fault → (Taken → Type 0) → (Fault → Type 0) → Type 0
@@ -89,7 +89,7 @@ Goes (Err f) P Q = Q f
 abbrev pub IsRead : Shape → Earlier → List Taken → List (List ℕ) → Result Script ScriptError → Type 0
 IsRead shape earlier before [] r = r ≡ Ok (script_of earlier before)
 IsRead shape earlier before (l ∷ ls) r =
-    (s : Said) × IsSaid l s × Goes (judged_after shape earlier before s) (λ t. IsRead shape earlier (t ∷ before) ls r) (λ f. r ≡ Err (refused f (length before + 1)))
+    (s : Said) × IsSaid l s × Goes (judged_after shape earlier before s) (λ t. IsRead shape earlier (t ∷ before) ls r) (λ f. r ≡ Err (error_at f (length before + 1)))
 
 -- what a text gives, and that it gives nothing else
 pub record IsScriptOf (shape : Shape) (earlier : Earlier) (text : List ℕ) (r : Result Script ScriptError) : Type 0 where

@@ -11,7 +11,7 @@ use crate::elastic_progress::ElasticProgress;
 use crate::error::ScriptError;
 use crate::named::NamedShape;
 use crate::policies::judged_worded;
-use crate::refusal::stopped;
+use crate::refusal::error_of_refusal;
 use crate::worded::worded_by;
 use std::alloc::Global;
 use wave_base::Shape;
@@ -36,7 +36,7 @@ fn take_worded(
             progress.take(alloc, told)?;
             Ok(())
         }
-        Err(refusal) => Err(stopped(refusal, number)),
+        Err(refusal) => Err(error_of_refusal(refusal, number)),
     }
 }
 

@@ -1,7 +1,7 @@
 //! Why a text is no script of a service.
 
 ghost use Rattle.std.specs.Prelude.{◌≡◌};
-ghost use Rattle.script_reader.specs.Scripts.{refused};
+ghost use Rattle.script_reader.specs.Scripts.{error_at};
 
 use thiserror::Error;
 use wave_base::OutOfMemory;
@@ -70,8 +70,8 @@ pub enum ScriptError {
 }
 
 /// The error of a fault on a line.
-pub(crate) fn refused(fault: Fault, line: u32) -> ScriptError
-    ensures { result ≡ refused fault line }
+pub(crate) fn error_at(fault: Fault, line: u32) -> ScriptError
+    ensures { result ≡ error_at fault line }
 {
     match fault {
         Fault::UnknownCommand => ScriptError::UnknownCommand { line },

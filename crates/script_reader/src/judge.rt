@@ -8,8 +8,8 @@ ghost use Rattle.wave_text.specs.Numbers.{number_of};
 ghost use Rattle.path_text.specs.Paths.{path_of};
 ghost use Rattle.path_text.specs.Steps.{is_step};
 ghost use Rattle.script_reader.specs.Forms.{is_literal, is_form};
-ghost use Rattle.script_reader.specs.Judged.{value_of, values_of, call_of, requested, move_to, judged_hosts, judged_form};
-ghost use Rattle.script_reader.specs.Scripts.{IsWellFormed, judged};
+ghost use Rattle.script_reader.specs.Judged.{value_of, values_of, call_of, requested_call, move_to, judged_hosts, judged_form};
+ghost use Rattle.script_reader.specs.Scripts.{IsWellFormed, judgment};
 ghost use Rattle.script_reader.specs.inner.Gives.{Gives};
 
 use crate::error::Fault;
@@ -115,7 +115,7 @@ fn call_of(alloc: Global, event: u16, params: &[Kind], args: &[Literal]) -> Resu
 }
 
 // The call of the event of that name.
-fn requested(
+fn requested_call(
     alloc: Global,
     shape: &NamedShape<'_>,
     name: &[u8],
@@ -123,7 +123,7 @@ fn requested(
 ) -> Result<Line, Refusal>
     requires shape { IsShape shape.now }
     requires form { list_all is_literal args.now ≡ true }
-    ensures { Gives result (requested shape.now name.now args.now) }
+    ensures { Gives result (requested_call shape.now name.now args.now) }
 {
     match shape.event(name) {
         Some(event) => call_of(alloc, event, shape.params(event), args),
@@ -198,7 +198,7 @@ fn judged_form(
         Form::Settle => Ok(Taken::Settle),
         _ if before.events >= EVENT_LINES => Err(Refusal::Fault(Fault::TooMany)),
         Form::Request(name, args) => {
-            let line = requested(alloc, shape, name.as_slice(), args.as_slice())?;
+            let line = requested_call(alloc, shape, name.as_slice(), args.as_slice())?;
             Ok(Taken::Event(line))
         }
         Form::Move(steps, to) => {
@@ -210,7 +210,7 @@ fn judged_form(
 }
 
 /// What a line is, after the lines before: taken, or refused.
-pub(crate) fn judged(
+pub(crate) fn judgment(
     alloc: Global,
     shape: &NamedShape<'_>,
     before: &Progress,
@@ -218,7 +218,7 @@ pub(crate) fn judged(
 ) -> Result<Taken, Refusal>
     requires shape { IsShape shape.now }
     requires form { IsWellFormed said.now }
-    ensures { Gives result (judged shape.now before.now.hosts before.now.begun before.now.events said.now) }
+    ensures { Gives result (judgment shape.now before.now.hosts before.now.begun before.now.events said.now) }
 {
     match said {
         Said::Nothing => Ok(Taken::Skipped),

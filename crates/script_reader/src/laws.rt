@@ -3,7 +3,7 @@
 ghost use Rattle.std.specs.Prelude.{◌≡◌, ℕ, List, Result, Ok, sum_by, length};
 ghost use Rattle.script_reader.specs.Elastics.{IsElasticOf, plain_elastic};
 ghost use Rattle.script_reader.specs.Judged.{nothing_earlier, script_earlier};
-ghost use Rattle.script_reader.specs.Laws.{joined, joined_text};
+ghost use Rattle.script_reader.specs.Laws.{joint_script, joined_text};
 ghost use Rattle.script_reader.specs.Scripts.{IsScriptOf};
 ghost use Rattle.script_reader.specs.declared.elastic.Elastic.{Elastic};
 ghost use Rattle.script_reader.specs.declared.error.ScriptError.{ScriptError};
@@ -18,5 +18,5 @@ pub fn plain_scripts_are_elastic()
 /// What is read as a script, a line `settle`, and behind it what is read as one that goes on after that script, is read as the batches of
 /// both.
 pub fn scripts_go_on()
-    ensures { (shape : Shape) (first second : List ℕ) (a b : Script) (r : Result Script ScriptError) → IsScriptOf shape nothing_earlier first (Ok a) → IsScriptOf shape (script_earlier a.hosts (sum_by length a.batches)) second (Ok b) → IsScriptOf shape nothing_earlier (joined_text first second) r → r ≡ Ok (joined a b) }
+    ensures { (shape : Shape) (first second : List ℕ) (a b : Script) (r : Result Script ScriptError) → IsScriptOf shape nothing_earlier first (Ok a) → IsScriptOf shape (script_earlier a.hosts (sum_by length a.batches)) second (Ok b) → IsScriptOf shape nothing_earlier (joined_text first second) r → r ≡ Ok (joint_script a b) }
 {}

@@ -12,7 +12,7 @@ ghost use Rattle.script_reader.specs.inner.ElasticProgressed.{IsWellWorded};
 
 use crate::elastic_progress::ElasticProgress;
 use crate::error::Fault;
-use crate::judge::{judged, number_within};
+use crate::judge::{judgment, number_within};
 use crate::named::NamedShape;
 use crate::policy_form::PolicyForm;
 use crate::refusal::Refusal;
@@ -105,7 +105,7 @@ pub(crate) fn judged_worded(
     ensures { Gives result (judged_worded shape.now before.now.plain.hosts before.now.plain.begun before.now.plain.events before.now.under_way worded.now) }
 {
     match worded {
-        Worded::Plain(said) => Ok(Told::Plain(judged(alloc, shape, &before.plain, said)?)),
+        Worded::Plain(said) => Ok(Told::Plain(judgment(alloc, shape, &before.plain, said)?)),
         Worded::Policy(form) => Ok(Told::Policed(judged_policy(before, form)?)),
     }
 }

@@ -10,10 +10,10 @@ ghost use Rattle.script_reader.specs.inner.Steps.{MayRead, IsStep, IsStop};
 
 use crate::earlier::Earlier;
 use crate::error::ScriptError;
-use crate::judge::judged;
+use crate::judge::judgment;
 use crate::named::NamedShape;
 use crate::progress::Progress;
-use crate::refusal::stopped;
+use crate::refusal::error_of_refusal;
 use crate::said::said_by;
 use std::alloc::Global;
 use wave_base::{EVENT_LINES, HOSTS, Script, Shape};
@@ -33,12 +33,12 @@ fn take_line(
     ensures err { IfErr result (IsStop shape.now line.now progress.old number) }
 {
     let said = said_by(alloc, line)?;
-    match judged(alloc, shape, progress, &said) {
+    match judgment(alloc, shape, progress, &said) {
         Ok(taken) => {
             progress.take(alloc, taken)?;
             Ok(())
         }
-        Err(refusal) => Err(stopped(refusal, number)),
+        Err(refusal) => Err(error_of_refusal(refusal, number)),
     }
 }
 

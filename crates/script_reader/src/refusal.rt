@@ -1,9 +1,9 @@
 //! What becomes of a line that is not taken.
 
 ghost use Rattle.std.specs.Prelude.{◌≡◌};
-ghost use Rattle.script_reader.specs.inner.Steps.{stopped};
+ghost use Rattle.script_reader.specs.inner.Steps.{error_of_refusal};
 
-use crate::error::{Fault, ScriptError, refused};
+use crate::error::{Fault, ScriptError, error_at};
 use wave_base::OutOfMemory;
 
 /// Why a line is not taken.
@@ -38,11 +38,11 @@ impl From<OutOfMemory> for Refusal {
 }
 
 /// The error of a line that is not taken, and has this number.
-pub(crate) fn stopped(refusal: Refusal, line: u32) -> ScriptError
-    ensures { result ≡ stopped refusal line }
+pub(crate) fn error_of_refusal(refusal: Refusal, line: u32) -> ScriptError
+    ensures { result ≡ error_of_refusal refusal line }
 {
     match refusal {
-        Refusal::Fault(fault) => refused(fault, line),
+        Refusal::Fault(fault) => error_at(fault, line),
         Refusal::OutOfMemory(refused) => ScriptError::OutOfMemory(refused),
     }
 }

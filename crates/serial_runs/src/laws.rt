@@ -36,7 +36,7 @@ pub fn owners_take<T: Acting>()
 }
 
 /// The record of a context, also while a worker has it in hand, says how many Enters were sent to each child, and where it was born.
-pub fn recorded<T: Acting>()
+pub fn records_agree<T: Acting>()
     ensures { (c : T.Code) → AlwaysOf (T.kind c) Recorded }
 {
     agree::<T>();

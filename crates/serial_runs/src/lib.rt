@@ -6,8 +6,8 @@ mod laws;
 mod plans;
 
 pub use laws::{
-    either_order, neighbours_change, oldest_is_serial, one_end, origins, owners_take, recorded,
-    serial,
+    either_order, neighbours_change, oldest_is_serial, one_end, origins, owners_take,
+    records_agree, serial,
 };
 pub use plans::{
     plans_are_serial, plans_change_neighbours, plans_come_in_order, plans_drive_serially,

@@ -17,11 +17,11 @@ ghost use Rattle.serial_runs.specs.Recorded.{Recorded};
 ghost use Rattle.serial_runs.specs.Serial.{IsSerial, HasSerial};
 
 use crate::laws::{
-    either_order, neighbours_change, oldest_is_serial, one_end, origins, owners_take, recorded,
-    serial,
+    either_order, neighbours_change, oldest_is_serial, one_end, origins, owners_take,
+    records_agree, serial,
 };
 use plan_actors::PlanActors;
-use wave_theory::{came, traced};
+use wave_theory::{arrivals, trails_are_told};
 
 /// Each finished run of a plan ends in the very state to which a serial run of the same plan leads, by worker 0 alone.
 pub fn plans_are_serial()

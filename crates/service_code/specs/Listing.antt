@@ -11,13 +11,13 @@ use Rattle.service_code.specs.declared.program.Program.{Program}
 use Rattle.service_code.specs.Instructions.{name_of, operands_of, HasOperator}
 
 -- one space before each word
-abbrev pub spaced : List (List ℕ) → List ℕ
-spaced [] = []
-spaced (w ∷ ws) = 32 ∷ (w ++ spaced ws)
+abbrev pub spaced_words : List (List ℕ) → List ℕ
+spaced_words [] = []
+spaced_words (w ∷ ws) = 32 ∷ (w ++ spaced_words ws)
 
 -- an instruction's number, its name, its operands, and `@` before its place
 abbrev pub line_text : ℕ → Instr → Span → List ℕ
-line_text n i p = decimal n ++ spaced (name_of i ∷ operands_of i) ++ spaced ((codes "@" ++ place_text p) ∷ []) ++ 10 ∷ []
+line_text n i p = decimal n ++ spaced_words (name_of i ∷ operands_of i) ++ spaced_words ((codes "@" ++ place_text p) ∷ []) ++ 10 ∷ []
 
 -- the instructions from number n on
 abbrev pub lines_text : ℕ → List Instr → List Span → List ℕ
@@ -38,7 +38,7 @@ head_words shape n f =
 
 -- the function with number n
 abbrev pub function_text : Shape → ℕ → Function → List ℕ
-function_text shape n f = codes "function" ++ spaced (head_words shape n f) ++ 10 ∷ [] ++ lines_text 0 f.code f.places
+function_text shape n f = codes "function" ++ spaced_words (head_words shape n f) ++ 10 ∷ [] ++ lines_text 0 f.code f.places
 
 -- the functions from number n on
 abbrev pub functions_text : Shape → ℕ → List Function → List ℕ

@@ -3,7 +3,7 @@
 ghost use Rattle.std.specs.Prelude.{◌≡◌, ◌++◌, ◌∷◌, [], ◌<◌, ℕ, length, All, IfOk, OnOk, codes};
 ghost use Rattle.std.specs.Fmt.{decimal, signed_decimal};
 ghost use Rattle.service_code.specs.Instructions.{operands_of, HasOperator};
-ghost use Rattle.service_code.specs.Listing.{spaced, line_text, lines_text, function_name, head_words, function_text, program_text, CanList};
+ghost use Rattle.service_code.specs.Listing.{spaced_words, line_text, lines_text, function_name, head_words, function_text, program_text, CanList};
 
 use crate::instr::Instr;
 use crate::program::{Function, Program};
@@ -47,7 +47,7 @@ fn put_head(
     function: &Function,
 ) -> Result<(), OutOfMemory>
     requires { CanList shape.now function.now }
-    ensures { OnOk result (text.new.items ≡ text.old.items ++ codes "function" ++ spaced (head_words shape.now number function.now) ++ 10 ∷ []) }
+    ensures { OnOk result (text.new.items ≡ text.old.items ++ codes "function" ++ spaced_words (head_words shape.now number function.now) ++ 10 ∷ []) }
 {
     put_bytes(text, b"function")?;
     put_spaced_number(alloc, text, number as u64)?;
@@ -61,7 +61,7 @@ fn put_head(
 // An event's name, or a method's with its class.
 fn put_name(text: &mut Vec<u8>, shape: &Shape, function: &Function) -> Result<(), OutOfMemory>
     requires { CanList shape.now function.now }
-    ensures { OnOk result (text.new.items ≡ text.old.items ++ spaced (function_name shape.now function.now ∷ [])) }
+    ensures { OnOk result (text.new.items ≡ text.old.items ++ spaced_words (function_name shape.now function.now ∷ [])) }
 {
     if function.is_event {
         return put_word(text, function.name.bytes());
@@ -106,7 +106,7 @@ fn put_line(
 // The operands of an instruction.
 fn put_operands(alloc: Global, text: &mut Vec<u8>, instr: &Instr) -> Result<(), OutOfMemory>
     requires { HasOperator instr.now }
-    ensures { OnOk result (text.new.items ≡ text.old.items ++ spaced (operands_of instr.now)) }
+    ensures { OnOk result (text.new.items ≡ text.old.items ++ spaced_words (operands_of instr.now)) }
 {
     match *instr {
         Instr::PushInt(n) => put_spaced_whole(alloc, text, n),
@@ -141,14 +141,14 @@ fn put_operands(alloc: Global, text: &mut Vec<u8>, instr: &Instr) -> Result<(), 
 
 // What is counted, and its number.
 fn put_count(alloc: Global, text: &mut Vec<u8>, word: &[u8], n: u64) -> Result<(), OutOfMemory>
-    ensures { OnOk result (text.new.items ≡ text.old.items ++ spaced (word.now ∷ decimal n ∷ [])) }
+    ensures { OnOk result (text.new.items ≡ text.old.items ++ spaced_words (word.now ∷ decimal n ∷ [])) }
 {
     put_word(text, word)?;
     put_spaced_number(alloc, text, n)
 }
 
 fn put_two(alloc: Global, text: &mut Vec<u8>, first: u16, second: u16) -> Result<(), OutOfMemory>
-    ensures { OnOk result (text.new.items ≡ text.old.items ++ spaced (decimal first ∷ decimal second ∷ [])) }
+    ensures { OnOk result (text.new.items ≡ text.old.items ++ spaced_words (decimal first ∷ decimal second ∷ [])) }
 {
     put_spaced_number(alloc, text, u64::from(first))?;
     put_spaced_number(alloc, text, u64::from(second))
@@ -156,7 +156,7 @@ fn put_two(alloc: Global, text: &mut Vec<u8>, first: u16, second: u16) -> Result
 
 // A space and a number.
 fn put_spaced_number(alloc: Global, text: &mut Vec<u8>, n: u64) -> Result<(), OutOfMemory>
-    ensures { OnOk result (text.new.items ≡ text.old.items ++ spaced (decimal n ∷ [])) }
+    ensures { OnOk result (text.new.items ≡ text.old.items ++ spaced_words (decimal n ∷ [])) }
 {
     put_bytes(text, b" ")?;
     put_number(alloc, text, n)
@@ -164,7 +164,7 @@ fn put_spaced_number(alloc: Global, text: &mut Vec<u8>, n: u64) -> Result<(), Ou
 
 // A space and a whole number.
 fn put_spaced_whole(alloc: Global, text: &mut Vec<u8>, n: i64) -> Result<(), OutOfMemory>
-    ensures { OnOk result (text.new.items ≡ text.old.items ++ spaced (signed_decimal n ∷ [])) }
+    ensures { OnOk result (text.new.items ≡ text.old.items ++ spaced_words (signed_decimal n ∷ [])) }
 {
     put_bytes(text, b" ")?;
     put_whole(alloc, text, n)
@@ -172,7 +172,7 @@ fn put_spaced_whole(alloc: Global, text: &mut Vec<u8>, n: i64) -> Result<(), Out
 
 // A space and a word.
 fn put_word(text: &mut Vec<u8>, word: &[u8]) -> Result<(), OutOfMemory>
-    ensures { OnOk result (text.new.items ≡ text.old.items ++ spaced (word.now ∷ [])) }
+    ensures { OnOk result (text.new.items ≡ text.old.items ++ spaced_words (word.now ∷ [])) }
 {
     put_bytes(text, b" ")?;
     put_bytes(text, word)

@@ -17,7 +17,7 @@ use Rattle.code_scheme.specs.Texts.{Text, with_texts, method_uses, event_uses, m
 use Rattle.service_compiler.specs.declared.error.CompileError.{CompileError}
 use Rattle.service_compiler.specs.declared.error.CompileError.TheVariants.{CodeTooLong, OutOfMemory}
 use Rattle.service_compiler.specs.Faults.{Refuses}
-use Rattle.service_compiler.specs.inner.Drafts.{Draft, started, GoOn}
+use Rattle.service_compiler.specs.inner.Drafts.{Draft, new_draft, GoOn}
 use Rattle.service_compiler.specs.inner.Functions.{AreShort, IsReady, Writes, Adds, IsFirstLong, HasLong, IsRefused, IsLong}
 use Rattle.service_compiler.proofs.Drafts.{with_more, earlier}
 use Rattle.service_compiler.proofs.Notes.{item_more, uses_next}
@@ -35,11 +35,11 @@ module _ (c0 c1 : Draft) (uses : List Text) (code : List Text → List Line) (du
   code_short short all go = let h = (writes.holds all go).count_is in omega (arith, short, h)
 
   -- it is not too long
-  pub function_added : (c2 : Draft) (function : Function) → c1.count ≤ INSTRUCTIONS → ((all : List Text) → length (code all) ≤ INSTRUCTIONS → c1.lines ≡ code all → function ≡ due all) → c2 ≡ started (c1.functions ++ function ∷ []) c1.texts →
+  pub function_added : (c2 : Draft) (function : Function) → c1.count ≤ INSTRUCTIONS → ((all : List Text) → length (code all) ≤ INSTRUCTIONS → c1.lines ≡ code all → function ≡ due all) → c2 ≡ new_draft (c1.functions ++ function ∷ []) c1.texts →
       Adds c0 c2 uses (λ all. due all ∷ [])
   function_added c2 function short is added = record {
     ready = record {
-      begins = added ∙ (λ i. started (sym added i).functions (sym added i).texts);
+      begins = added ∙ (λ i. new_draft (sym added i).functions (sym added i).texts);
       short = subst AreShort (sym functions) (All-push (λ (f : Function). length f.code ≤ INSTRUCTIONS) c0.functions function ready.short
           (let l = long used in let s = code_short short used (go_self used) in omega (arith, l, s, ap (λ (f : Function). length f.code) (function_is used (go_self used)))));
     };
@@ -248,7 +248,7 @@ module _ (shape : Shape) (service : Resolved) where
   abbrev all_functions : List Text → List Function
   all_functions all = functions_with shape service all
 
-  pub refuses : (e : CompileError) → IsRefused (started [] []) uses all_functions e → Refuses shape service e
+  pub refuses : (e : CompileError) → IsRefused (new_draft [] []) uses all_functions e → Refuses shape service e
   unfolding scheme_program service_texts
   refuses (OutOfMemory _) h = tt
   refuses (CodeTooLong k size) h =
@@ -261,11 +261,11 @@ module _ (shape : Shape) (service : Resolved) where
         first = long.first;
       }
 
-  pub texts_are : (d : Draft) → Adds (started [] []) d uses all_functions → d.texts ≡ service_texts service
+  pub texts_are : (d : Draft) → Adds (new_draft [] []) d uses all_functions → d.texts ≡ service_texts service
   unfolding service_texts
   texts_are d a = a.texts
 
-  pub program_is : (d : Draft) → Adds (started [] []) d uses all_functions → (functions : List Function) (lists : List Text) (numbers : List ℕ) → functions ≡ d.functions → lists ≡ d.texts → numbers ≡ numbers_from (length service.methods) (length service.events) →
+  pub program_is : (d : Draft) → Adds (new_draft [] []) d uses all_functions → (functions : List Function) (lists : List Text) (numbers : List ℕ) → functions ≡ d.functions → lists ≡ d.texts → numbers ≡ numbers_from (length service.methods) (length service.events) →
       record { shape = shape; functions = functions; texts = lists; events = numbers } ≡ scheme_program shape service
   unfolding scheme_program
   program_is d a functions lists numbers f t n = λ i. record {
@@ -276,19 +276,19 @@ module _ (shape : Shape) (service : Resolved) where
   }
 
   -- what is due, said of what a call is given
-  module _ (c0 c1 : Draft) (ms : List Method) (is : List EventInfo) (es : List Event) (none : c0 ≡ started [] []) (methods_are : ms ≡ service.methods) (infos_are : is ≡ shape.events) (events_are : es ≡ service.events) where
+  module _ (c0 c1 : Draft) (ms : List Method) (is : List EventInfo) (es : List Event) (none : c0 ≡ new_draft [] []) (methods_are : ms ≡ service.methods) (infos_are : is ≡ shape.events) (events_are : es ≡ service.events) where
     abbrev given_uses : List Text
     given_uses = methods_uses ms ++ events_uses es
 
     abbrev given_functions : List Text → List Function
     given_functions all = map (method_function ms all) ms ++ event_functions ms all is es
 
-    said : (P : Draft → List Text → (List Text → List Function) → Type 0) → P c0 given_uses given_functions → P (started [] []) uses all_functions
+    said : (P : Draft → List Text → (List Text → List Function) → Type 0) → P c0 given_uses given_functions → P (new_draft [] []) uses all_functions
     said P h =
         subst (λ (x : (d : Draft) × (a : List Method) × (b : List EventInfo) × List Event). P x.0 (methods_uses x.1 ++ events_uses x.3) (λ all. map (method_function x.1 all) x.1 ++ event_functions x.1 all x.2 x.3))
         (λ i. (none i, methods_are i, infos_are i, events_are i)) h
 
-    pub all_added : (c2 : Draft) → Adds c0 c1 (methods_uses ms) (λ all. map (method_function ms all) ms) → Adds c1 c2 (events_uses es) (λ all. event_functions ms all is es) → Adds (started [] []) c2 uses all_functions
+    pub all_added : (c2 : Draft) → Adds c0 c1 (methods_uses ms) (λ all. map (method_function ms all) ms) → Adds c1 c2 (events_uses es) (λ all. event_functions ms all is es) → Adds (new_draft [] []) c2 uses all_functions
     all_added c2 a b = said (λ d u f. Adds d c2 u f) (adds_then a b)
 
     pub methods_refuse : (e : CompileError) → IsRefused c0 (methods_uses ms) (λ all. map (method_function ms all) ms) e → Refuses shape service e
@@ -298,5 +298,5 @@ module _ (shape : Shape) (service : Resolved) where
     events_refuse e a h = refuses e (said (λ d u f. IsRefused d u f e) (refused_then e a h))
 
 -- no functions yet
-pub ready_new : (d : Draft) → d ≡ started [] [] → IsReady d
+pub ready_new : (d : Draft) → d ≡ new_draft [] [] → IsReady d
 ready_new d is = subst IsReady (sym is) (record { begins = refl; short = All-nil (λ (f : Function). length f.code ≤ INSTRUCTIONS) })

@@ -17,7 +17,7 @@ use Rattle.service_verify.specs.declared.error.Rule.TheVariants as rule
 use Rattle.service_verify.specs.declared.point.Point.{Point}
 use Rattle.service_verify.specs.Fit.{IsFit}
 use Rattle.service_verify.specs.Points.{Table, arrivals, visited_then, first_table, point_after, visit, judged_from, judged_function, IsVerified}
-use Rattle.service_verify.specs.Rules.{Judged, Effect, found, must, judged_then, operands, effect_of, next_of}
+use Rattle.service_verify.specs.Rules.{Judged, Effect, judged_item, must, judged_then, operands, effect_of, next_of}
 
 then_ok : {A B : Type 0} (a : Judged A) (go : A → Judged B) (b : B) → judged_then a go ≡ Ok b → (x : A) × (a ≡ Ok x)
 then_ok (Ok x) go b h = (x, refl)
@@ -41,11 +41,11 @@ module _ (program : Program) (number : ℕ) (function : Function) where
   unfolding visit
   visit_listed n i t u h = by (slice_get t n) h
     where
-      inner : (q : Option Point) → found rule.Jump q (λ p. judged_then (point_after program number function i p) (λ after. arrivals (next_of i n) after t)) ≡ Ok u → HasOperator i
+      inner : (q : Option Point) → judged_item rule.Jump q (λ p. judged_then (point_after program number function i p) (λ after. arrivals (next_of i n) after t)) ≡ Ok u → HasOperator i
       inner None h = cc
       inner (Some p) h = let e = then_ok (point_after program number function i p) (λ after. arrivals (next_of i n) after t) u h in point_listed i p e.0 e.1
 
-      by : (o : Option (Option Point)) → found rule.Jump o (λ q. found rule.Jump q (λ p. judged_then (point_after program number function i p) (λ after. arrivals (next_of i n) after t))) ≡ Ok u → HasOperator i
+      by : (o : Option (Option Point)) → judged_item rule.Jump o (λ q. judged_item rule.Jump q (λ p. judged_then (point_after program number function i p) (λ after. arrivals (next_of i n) after t))) ≡ Ok u → HasOperator i
       by None h = cc
       by (Some q) h = inner q h
 

@@ -4,7 +4,7 @@ ghost use Rattle.std.specs.Prelude.{◌≡◌, ℕ, ◌<◌, ◌+◌, ◌^◌, [
 ghost use Rattle.service_code.specs.declared.instr.Instr.{Instr};
 ghost use Rattle.code_scheme.specs.Scheme.{line};
 ghost use Rattle.code_scheme.specs.Texts.{place_of_text};
-ghost use Rattle.service_compiler.specs.inner.Drafts.{Draft, Emits, Puts, started};
+ghost use Rattle.service_compiler.specs.inner.Drafts.{Draft, Emits, Puts, new_draft};
 
 use crate::texts::Texts;
 use code_scheme::Line;
@@ -38,7 +38,7 @@ impl Model for Code {
 impl Code {
     /// No functions yet.
     pub fn new(alloc: Global) -> Code
-        ensures { result ≡ started [] [] }
+        ensures { result ≡ new_draft [] [] }
     {
         Code {
             alloc,
@@ -119,7 +119,7 @@ impl Code {
     /// Adds the function whose lines are here, and begins the next one.
     pub fn finish(&mut self, function: Function) -> Result<(), OutOfMemory>
         requires { length self.old.functions + 1 < 2 ^ 16 }
-        ensures { OnOk result (self.new ≡ started (self.old.functions ++ function ∷ []) self.old.texts) }
+        ensures { OnOk result (self.new ≡ new_draft (self.old.functions ++ function ∷ []) self.old.texts) }
     {
         self.functions.push(function)?;
         self.lines.clear();

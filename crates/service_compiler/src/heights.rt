@@ -123,18 +123,18 @@ fn expr_height(methods: &[Method], expr: &Expr) -> u16
                 .max(expr_height(methods, right))
                 .max(1)
         }
-        Node::Call(_, args) => exprs_height(methods, args).max(left(leaves(methods, expr))),
+        Node::Call(_, args) => exprs_height(methods, args).max(height_left(leaves(methods, expr))),
         Node::Child(_, _, key, args) => {
             let given = exprs_height(methods, args).saturating_add(1);
             expr_height(methods, key)
                 .max(given)
-                .max(left(leaves(methods, expr)))
+                .max(height_left(leaves(methods, expr)))
         }
     }
 }
 
 // What a call leaves on the stack.
-fn left(leaves: bool) -> u16
+fn height_left(leaves: bool) -> u16
     ensures { result ≡ one_if leaves }
 {
     if leaves { 1 } else { 0 }

@@ -8,7 +8,7 @@ use Rattle.wave_base.specs.Shapes.{class_of}
 use Rattle.context_tree.specs.Contexts.{Contexts}
 use Rattle.resolved_service.specs.declared.stmt.Stmt.{Stmt}
 use Rattle.resolved_service.specs.Fits.{FitsSteps}
-use Rattle.resolved_service.specs.Meaning.{State, Outcome, Done, Trapped, Left, Act, and_then, give, choose, value, effect, effects, else_effect, called}
+use Rattle.resolved_service.specs.Meaning.{State, Outcome, Done, Trapped, Left, Act, and_then, give, choose, value, effect, effects, else_effect, call_act}
 use Rattle.resolved_service.specs.Steps.{Step, Steps, no_steps, step, If, Else, steps_in}
 use Rattle.resolved_service.specs.View.{Tree}
 use Rattle.resolved_service.specs.World.{is_true}
@@ -39,7 +39,7 @@ further code c0 c1 c2 m0 m1 m2 all left rest a b =
     let M2 = mach code c2 m2 in
     let place : m1.path ≡ m0.path = ap (λ (x : Mach). x.path) a.to in
     record {
-      same = a.same ∙ subst (λ p. effects (called code.methods.now TICKS) TICKS p left (mach code c1 m1).state ≡ effects (called code.methods.now TICKS) TICKS p rest M2.state) place b.same;
+      same = a.same ∙ subst (λ p. effects (call_act code.methods.now TICKS) TICKS p left (mach code c1 m1).state ≡ effects (call_act code.methods.now TICKS) TICKS p rest M2.state) place b.same;
       to = b.to ∙ ap (in_state M2.state) a.to;
       ready = b.ready;
       fits = subst (λ p. FitsSteps code.shape.now code.methods.now (class_of p) rest) place b.fits;
@@ -52,7 +52,7 @@ pub nothing_more : (code : Code) (c0 c1 c2 : Contexts) (m0 m1 m2 : Machine) (all
 nothing_more code c0 c1 c2 m0 m1 m2 all left a is =
     let M0 = mach code c0 m0 in
     record {
-      same = a.same ∙ ap (λ (x : Mach). effects (called code.methods.now TICKS) TICKS m0.path left x.state) (sym is);
+      same = a.same ∙ ap (λ (x : Mach). effects (call_act code.methods.now TICKS) TICKS m0.path left x.state) (sym is);
       to = is ∙ a.to ∙ ap (λ (x : Mach). in_state x.state M0) (sym is);
       ready = subst (Ready code.shape.now code.methods.now) (sym is) a.ready;
       fits = a.fits;
@@ -66,7 +66,7 @@ stops_after code c0 c1 c2 m0 m1 m2 all left e a h =
     let M1 = mach code c1 m1 in
     let w = (mach code c2 m2).state.world in
     let place : m1.path ≡ m0.path = ap (λ (x : Mach). x.path) a.to in
-    (subst (λ o. Traps o e w) (sym a.same) (subst (λ p. Traps (effects (called code.methods.now TICKS) TICKS p left M1.state) e w) place h.0), h.1)
+    (subst (λ o. Traps o e w) (sym a.same) (subst (λ p. Traps (effects (call_act code.methods.now TICKS) TICKS p left M1.state) e w) place h.0), h.1)
 
 -- what is left, in the machine, before other things that are to be done
 module _ (code : Code) (c0 c1 : Contexts) (m0 m1 : Machine) (all left : Steps) (h : Advances code c0 m0 all c1 m1 left) (next : List Item) where
@@ -92,14 +92,14 @@ module _ (code : Code) (c0 c1 : Contexts) (m0 m1 : Machine) (all left : Steps) (
 -- where the statements fail, so does the machine
 pub stops_fail : (code : Code) (c0 c1 : Contexts) (m0 m1 : Machine) (all : Steps) (next : List Item) (e : Stop) → StopsIn code c0 m0 all c1 m1 e → Turned code.shape.now code.methods.now (before_all (Block all ∷ next) (mach code c0 m0)) (Err e) (mach code c1 m1)
 stops_fail code c0 c1 m0 m1 all next e h = (
-  fails_through code.methods.now (next ++ (mach code c0 m0).items) m0.path _ e _ (traps_then (effects (called code.methods.now TICKS) TICKS m0.path all (mach code c0 m0).state) (λ _. give m0.values.items) e _ h.0),
+  fails_through code.methods.now (next ++ (mach code c0 m0).items) m0.path _ e _ (traps_then (effects (call_act code.methods.now TICKS) TICKS m0.path all (mach code c0 m0).state) (λ _. give m0.values.items) e _ h.0),
   h.1,
 )
 
 -- a statement was done, and the others are left
 pub one_done : (code : Code) (c0 c1 : Contexts) (m0 m1 : Machine) (s : Step) (ss : Steps) → FitsSteps code.shape.now code.methods.now (class_of m0.path) (step s ss) → AtOnce code c0 m0 s (Ok true) c1 m1 → Advances code c0 m0 (step s ss) c1 m1 ss
 one_done code c0 c1 m0 m1 s ss fits h = record {
-  same = ap (λ o. and_then o (λ _. effects (called code.methods.now TICKS) TICKS m0.path ss)) h.0;
+  same = ap (λ o. and_then o (λ _. effects (call_act code.methods.now TICKS) TICKS m0.path ss)) h.0;
   to = h.1;
   ready = h.2;
   fits = fits.1;
@@ -107,8 +107,8 @@ one_done code c0 c1 m0 m1 s ss fits h = record {
   less = λ n. omega arith;
 }
 
-pub one_stops : (code : Code) (c0 c1 : Contexts) (m0 m1 : Machine) (s : Step) (ss : Steps) (e : Stop) → Does code c0 m0 (effect (called code.methods.now TICKS) TICKS m0.path s) (Err e) c1 m1 → StopsIn code c0 m0 (step s ss) c1 m1 e
-one_stops code c0 c1 m0 m1 s ss e h = (traps_then (effect (called code.methods.now TICKS) TICKS m0.path s (mach code c0 m0).state) (λ _. effects (called code.methods.now TICKS) TICKS m0.path ss) e _ h.0, h.1)
+pub one_stops : (code : Code) (c0 c1 : Contexts) (m0 m1 : Machine) (s : Step) (ss : Steps) (e : Stop) → Does code c0 m0 (effect (call_act code.methods.now TICKS) TICKS m0.path s) (Err e) c1 m1 → StopsIn code c0 m0 (step s ss) c1 m1 e
+one_stops code c0 c1 m0 m1 s ss e h = (traps_then (effect (call_act code.methods.now TICKS) TICKS m0.path s (mach code c0 m0).state) (λ _. effects (call_act code.methods.now TICKS) TICKS m0.path ss) e _ h.0, h.1)
 
 last_is : (o : Outcome (Unit {0})) → and_then o (λ _. give tt) ≡ o
 last_is (Done u st) = refl
@@ -122,8 +122,8 @@ module _ (code : Code) (c0 c1 : Contexts) (m0 m1 : Machine) (s : Step) (is : mac
       let M0 = mach code c0 m0 in
       let M1 = mach code c1 m1 in
       record {
-        same = subst (λ (x : Mach). effects (called code.methods.now TICKS) TICKS x.path (step s no_steps) x.state ≡ effects (called code.methods.now TICKS) TICKS x.path block M1.state) is
-            (last_is (effect (called code.methods.now TICKS) TICKS m1.path s M1.state) ∙ h.same);
+        same = subst (λ (x : Mach). effects (call_act code.methods.now TICKS) TICKS x.path (step s no_steps) x.state ≡ effects (call_act code.methods.now TICKS) TICKS x.path block M1.state) is
+            (last_is (effect (call_act code.methods.now TICKS) TICKS m1.path s M1.state) ∙ h.same);
         to = is ∙ ap (λ (x : Mach). in_state x.state M0) (sym is);
         ready = subst (Ready code.shape.now code.methods.now) (sym is) ready;
         fits = h.fits code.shape.now code.methods.now (class_of m0.path) fits.0;
@@ -141,8 +141,8 @@ module _ (code : Code) (c0 c1 : Contexts) (m0 m1 : Machine) (s : Step) (is : mac
   chose_none (Err e) h =
       let M0 = mach code c0 m0 in
       let M1 = mach code c1 m1 in
-      let here : Traps (effect (called code.methods.now TICKS) TICKS m0.path s M0.state) e M1.state.world =
-      subst (λ (x : Mach). Traps (effect (called code.methods.now TICKS) TICKS x.path s x.state) e M1.state.world) is h in
+      let here : Traps (effect (call_act code.methods.now TICKS) TICKS m0.path s M0.state) e M1.state.world =
+      subst (λ (x : Mach). Traps (effect (call_act code.methods.now TICKS) TICKS x.path s x.state) e M1.state.world) is h in
       one_stops code c0 c1 m0 m1 s no_steps e (here, subst (λ (x : Mach). Holds code.shape.now x.state.world.tree) (sym is) ready.holds)
 
 -- the blocks of an `if`
@@ -151,13 +151,13 @@ module _ (code : Code) (contexts : Contexts) (m : Machine) (at : Span) (test : T
   st = (mach code contexts m).state
 
   abbrev call : ℕ → Path → List Value → Act (Option Value)
-  call = called code.methods.now TICKS
+  call = call_act code.methods.now TICKS
 
   abbrev decides : Bool → Outcome (Unit {0})
-  decides b = choose b (effects (called code.methods.now TICKS) TICKS m.path body) (else_effect (called code.methods.now TICKS) TICKS m.path other) (mach code contexts m).state
+  decides b = choose b (effects (call_act code.methods.now TICKS) TICKS m.path body) (else_effect (call_act code.methods.now TICKS) TICKS m.path other) (mach code contexts m).state
 
-  module _ (v : Value) (found : value (called code.methods.now TICKS) m.path test (mach code contexts m).state ≡ Done v (mach code contexts m).state) where
-    decided : effect (called code.methods.now TICKS) TICKS m.path (If at test body other) (mach code contexts m).state ≡ decides (is_true v)
+  module _ (v : Value) (found : value (call_act code.methods.now TICKS) m.path test (mach code contexts m).state ≡ Done v (mach code contexts m).state) where
+    decided : effect (call_act code.methods.now TICKS) TICKS m.path (If at test body other) (mach code contexts m).state ≡ decides (is_true v)
     decided = ap (λ o. and_then o (λ t. choose (is_true t) (effects call TICKS m.path body) (else_effect call TICKS m.path other))) found
 
     pub body_stands : is_true v ≡ true → Stands code contexts m (If at test body other) body
@@ -170,7 +170,7 @@ module _ (code : Code) (contexts : Contexts) (m : Machine) (at : Span) (test : T
       less = λ n. omega (arith, else_weighs n other);
     }
 
-  pub test_stops : (e : Stop) → Traps (value (called code.methods.now TICKS) m.path test (mach code contexts m).state) e (mach code contexts m).state.world → Traps (effect (called code.methods.now TICKS) TICKS m.path (If at test body other) (mach code contexts m).state) e (mach code contexts m).state.world
+  pub test_stops : (e : Stop) → Traps (value (call_act code.methods.now TICKS) m.path test (mach code contexts m).state) e (mach code contexts m).state.world → Traps (effect (call_act code.methods.now TICKS) TICKS m.path (If at test body other) (mach code contexts m).state) e (mach code contexts m).state.world
   test_stops e h = traps_then (value call m.path test st) (λ t. choose (is_true t) (effects call TICKS m.path body) (else_effect call TICKS m.path other)) e st.world h
 
 -- things that were done, and then others

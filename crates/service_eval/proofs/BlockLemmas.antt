@@ -5,7 +5,7 @@ use Rattle.wave_base.specs.declared.path.Path.{Path}
 use Rattle.wave_base.specs.declared.span.Span.{Span}
 use Rattle.wave_base.specs.declared.value.Value.{Value}
 use Rattle.resolved_service.specs.declared.service.Method.{Method}
-use Rattle.resolved_service.specs.Meaning.{State, Returned, Finished, Outcome, Done, Trapped, Left, Act, and_then, ◌>>=◌, ◌>>◌, give, with_world, leave, choose, set_local, put_field, value, values, while_turns, for_test, for_body, effect, effects, else_effect, called}
+use Rattle.resolved_service.specs.Meaning.{State, Returned, Finished, Outcome, Done, Trapped, Left, Act, and_then, ◌>>=◌, ◌>>◌, give, with_world, leave, choose, set_local, put_field, value, values, while_turns, for_test, for_body, effect, effects, else_effect, call_act}
 use Rattle.resolved_service.specs.Steps as s
 use Rattle.resolved_service.specs.Steps.{Step, Steps, no_steps, step, Else}
 use Rattle.resolved_service.specs.View.{Tree, Trees}
@@ -20,7 +20,7 @@ module _ (methods : List Method) (m : Mach) where
   vs = m.values
 
   abbrev k : ℕ → Path → List Value → Act (Option Value)
-  k = called methods TICKS
+  k = call_act methods TICKS
 
   abbrev go : Outcome (List Value) → Outcome Rest
   go = come_of methods m.items m.path
@@ -32,7 +32,7 @@ module _ (methods : List Method) (m : Mach) where
   under u = give m.values
 
   abbrev ends : Span → End → List Value → Act (Unit {0})
-  ends at what xs = finish (called methods TICKS) TICKS m.path at xs what
+  ends at what xs = finish (call_act methods TICKS) TICKS m.path at xs what
 
   abbrev finishes : Span → End → List Value → Act (List Value)
   finishes at what = act methods m.path (Finish at what (length m.values))
@@ -63,7 +63,7 @@ module _ (methods : List Method) (m : Mach) where
       (λ v st. ap (λ o. and_then o under) (h v st) ∙ ended at what (v ∷ []) st)
 
   -- a statement of one expression
-  one : (first : Step) (e : Tree) (at : Span) (what : End) (f : Value → Act (Unit {0})) → effect (called methods TICKS) TICKS m.path first m.state ≡ and_then (value (called methods TICKS) m.path e m.state) f → ((v : Value) (st : State) → f v st ≡ ends at what (v ∷ []) st) → comes_to methods (on_top (Begin first) m) ≡ comes_to methods (on_top (Eval e) (on_top (Finish at what (length m.values)) m))
+  one : (first : Step) (e : Tree) (at : Span) (what : End) (f : Value → Act (Unit {0})) → effect (call_act methods TICKS) TICKS m.path first m.state ≡ and_then (value (call_act methods TICKS) m.path e m.state) f → ((v : Value) (st : State) → f v st ≡ ends at what (v ∷ []) st) → comes_to methods (on_top (Begin first) m) ≡ comes_to methods (on_top (Eval e) (on_top (Finish at what (length m.values)) m))
   one first e at what f is h = ap go (ap (λ o. and_then o under) is ∙ one_is e at what f m.state h)
 
   pub set_local_parts : (at : Span) (slot : ℕ) (e : Tree) → comes_to methods (on_top (Begin (s.SetLocal at slot e)) m) ≡ comes_to methods (on_top (Eval e) (on_top (Finish at (SetLocal slot) (length m.values)) m))
@@ -108,7 +108,7 @@ module _ (methods : List Method) (m : Mach) where
       ∙ feeds (values k m.path ts m.state) (λ given st. and_then (with_world (spawning event given st.world) at st) under) (λ more. vs ++ more) (finishes at (Spawn event)) (λ given st. ended at (Spawn event) given st))
 
   -- a statement of two expressions
-  two : (first : Step) (a b : Tree) (at : Span) (what : End) → effect (called methods TICKS) TICKS m.path first m.state ≡ and_then (value (called methods TICKS) m.path a m.state) (λ x. value (called methods TICKS) m.path b >>= (λ y. finish (called methods TICKS) TICKS m.path at (x ∷ y ∷ []) what)) → comes_to methods (on_top (Begin first) m) ≡ comes_to methods (on_top (Eval a) (on_top (Eval b) (on_top (Finish at what (length m.values)) m)))
+  two : (first : Step) (a b : Tree) (at : Span) (what : End) → effect (call_act methods TICKS) TICKS m.path first m.state ≡ and_then (value (call_act methods TICKS) m.path a m.state) (λ x. value (call_act methods TICKS) m.path b >>= (λ y. finish (call_act methods TICKS) TICKS m.path at (x ∷ y ∷ []) what)) → comes_to methods (on_top (Begin first) m) ≡ comes_to methods (on_top (Eval a) (on_top (Eval b) (on_top (Finish at what (length m.values)) m)))
   two first a b at what is =
       ap go
       (ap (λ o. and_then o under) is
@@ -129,10 +129,10 @@ module _ (methods : List Method) (m : Mach) where
   -- a loop over numbers
   module _ (at : Span) (counter : ℕ) (from to : Tree) (body : Steps) where
     abbrev turns : Act (Unit {0})
-    turns = while_turns TICKS (for_test counter at) (for_body counter at (effects (called methods TICKS) TICKS m.path body)) at
+    turns = while_turns TICKS (for_test counter at) (for_body counter at (effects (call_act methods TICKS) TICKS m.path body)) at
 
     abbrev upper : Act (Unit {0})
-    upper = value (called methods TICKS) m.path to >>= (λ b. set_local (counter + 1) b >> turns)
+    upper = value (call_act methods TICKS) m.path to >>= (λ b. set_local (counter + 1) b >> turns)
 
     upper_is : (st : State) → and_then (upper st) under ≡ and_then (and_then (and_then (value k m.path to st) push) (finishes at (SetLocal (counter + 1)))) (act methods m.path (Counts at counter body))
     upper_is st =

@@ -5,7 +5,7 @@ use Rattle.wave_base.specs.declared.limits.TheConstants.{TICKS}
 use Rattle.wave_base.specs.declared.value.Value.{Value}
 use Rattle.wave_base.specs.Tree.{Tree}
 use Rattle.context_tree.specs.Contexts.{Contexts, tree_of as shown}
-use Rattle.resolved_service.specs.Meaning.{Done, value, called}
+use Rattle.resolved_service.specs.Meaning.{Done, value, call_act}
 use Rattle.resolved_service.specs.View.{Tree as Tree'}
 use Rattle.resolved_service.specs.Steps.{Step}
 use Rattle.service_eval.specs.declared.code.Code.{Code}
@@ -50,12 +50,12 @@ module _ (code : Code) (contexts : Contexts) (m m1 : Machine) (t : Tree') (items
   pub then_next : Ready code.shape.now code.methods.now (before_all items (mach code contexts m1))
   then_next = subst (λ x. Ready code.shape.now code.methods.now (before_all items x)) (sym gave) (ready_with _ _ (on_top (Eval t) (before_all items (mach code contexts m))) (items ++ (mach code contexts m).items) (m.values.items ++ v ∷ []) next next.items.1)
 
-  pub then_same : value (called code.methods.now TICKS) m.path t (state_of (shown code.shape.now contexts) m) ≡ Done v (state_of (shown code.shape.now contexts) m) → comes_to code.methods.now (on_top (Eval t) (before_all items (mach code contexts m))) ≡ comes_to code.methods.now (before_all items (mach code contexts m1))
+  pub then_same : value (call_act code.methods.now TICKS) m.path t (state_of (shown code.shape.now contexts) m) ≡ Done v (state_of (shown code.shape.now contexts) m) → comes_to code.methods.now (on_top (Eval t) (before_all items (mach code contexts m))) ≡ comes_to code.methods.now (before_all items (mach code contexts m1))
   then_same found = found_value code.methods.now (before_all items (mach code contexts m)) t v found ∙ ap (λ x. comes_to code.methods.now (before_all items x)) (sym gave)
 
   pub then_lighter : load code.methods.now (before_all items (mach code contexts m1)) ≤ load code.methods.now (on_top (Eval t) (before_all items (mach code contexts m)))
   then_lighter = subst (λ x. load code.methods.now (before_all items x) ≤ load code.methods.now (on_top (Eval t) (before_all items (mach code contexts m)))) (sym gave) (omega (arith, found_lighter code.methods.now (before_all items (mach code contexts m)) t v))
 
-  pub then_goes : value (called code.methods.now TICKS) m.path t (state_of (shown code.shape.now contexts) m) ≡ Done v (state_of (shown code.shape.now contexts) m) → (contexts' : Contexts) (m' : Machine) (r : Result (Unit {0}) Stop) → Turned code.shape.now code.methods.now (before_all items (mach code contexts m1)) r (mach code contexts' m') → Turned code.shape.now code.methods.now (on_top (Eval t) (before_all items (mach code contexts m))) r (mach code contexts' m')
+  pub then_goes : value (call_act code.methods.now TICKS) m.path t (state_of (shown code.shape.now contexts) m) ≡ Done v (state_of (shown code.shape.now contexts) m) → (contexts' : Contexts) (m' : Machine) (r : Result (Unit {0}) Stop) → Turned code.shape.now code.methods.now (before_all items (mach code contexts m1)) r (mach code contexts' m') → Turned code.shape.now code.methods.now (on_top (Eval t) (before_all items (mach code contexts m))) r (mach code contexts' m')
   then_goes found contexts' m' r h =
       goes_from code (on_top (Eval t) (before_all items (mach code contexts m))) (before_all items (mach code contexts m1)) r (mach code contexts' m') (then_same found) h then_lighter

@@ -20,14 +20,14 @@ use Rattle.resolved_service.specs.declared.service.Method.{Method}
 use Rattle.resolved_service.specs.Fits.{FitsSteps, FitsTree, FitsMethod, FitsLast, IsMethod}
 use Rattle.resolved_service.specs.Steps.{steps_in}
 use Rattle.resolved_service.specs.View.{tree_of}
-use Rattle.resolved_service.specs.World.{World, nothing, has, key_of, child, took, ticking, changed, with_entered, entering}
+use Rattle.resolved_service.specs.World.{World, nothing, has, key_of, child, after_tick, ticking, after_change, with_entered, entering}
 use Rattle.service_eval.specs.declared.code.Code.{Code}
 use Rattle.service_eval.specs.declared.machine.Machine.{Machine}
 use Rattle.service_eval.specs.declared.stop.Stop.{Stop}
 use Rattle.service_eval.specs.declared.stop.Stop.TheVariants as stop
 use Rattle.service_eval.specs.declared.work.Caller.{Caller}
 use Rattle.service_eval.specs.inner.Items.{Item, Invoke, Child, Block, Return, return_of}
-use Rattle.service_eval.specs.inner.Machines.{Mach, mach_of, on_top, cut_to, in_world, own, back_to, with_last, started, comes_to}
+use Rattle.service_eval.specs.inner.Machines.{Mach, mach_of, on_top, cut_to, in_world, own, back_to, with_last, method_start, comes_to}
 use Rattle.service_eval.specs.inner.Ready.{FitsItems, Ready}
 use Rattle.service_eval.specs.inner.Turns.{mach, IsNext, Goes}
 use Rattle.service_eval.specs.Worlds.{Holds}
@@ -37,7 +37,7 @@ use Rattle.service_eval.proofs.ReadyLemmas.{turned}
 use Rattle.wave_base.specs.Memory.{the_refusal}
 
 -- a tick is taken, and nothing else
-took_one : (n : ℕ) (w v : World) → took n w ≡ Ok v → (n ≡ suc v.ticks) × (v ≡ record w { ticks = v.ticks })
+took_one : (n : ℕ) (w v : World) → after_tick n w ≡ Ok v → (n ≡ suc v.ticks) × (v ≡ record w { ticks = v.ticks })
 took_one zero w v e = cc
 took_one (suc n) w v e = let same : record w { ticks = n } ≡ v = cc in (ap (λ (u : World). suc u.ticks) same, subst (λ (u : World). u ≡ record w { ticks = u.ticks }) same refl)
 
@@ -45,12 +45,12 @@ pub ticked : (w v : World) → ticking w ≡ Ok v → (w.ticks ≡ suc v.ticks) 
 ticked w v e = took_one w.ticks w v e
 
 -- a context that is entered is held already, or is a new one
-enters_by : (q : Path) (w v : World) (a b : Bool) → has w.held q ≡ a → ◌≡◌ {A = Answer World} (if a then Ok (changed w) else (if b then Ok (changed (with_entered q w)) else Err Reach)) (Ok v) → ((has w.held q ≡ true) × (v ≡ changed w)) ⊎ (v ≡ changed (with_entered q w))
-enters_by q w v true b h e = let same : changed w ≡ v = cc in inl (h, sym same)
-enters_by q w v false true h e = let same : changed (with_entered q w) ≡ v = cc in inr (sym same)
+enters_by : (q : Path) (w v : World) (a b : Bool) → has w.held q ≡ a → ◌≡◌ {A = Answer World} (if a then Ok (after_change w) else (if b then Ok (after_change (with_entered q w)) else Err Reach)) (Ok v) → ((has w.held q ≡ true) × (v ≡ after_change w)) ⊎ (v ≡ after_change (with_entered q w))
+enters_by q w v true b h e = let same : after_change w ≡ v = cc in inl (h, sym same)
+enters_by q w v false true h e = let same : after_change (with_entered q w) ≡ v = cc in inr (sym same)
 enters_by q w v false false h e = cc
 
-enters : (q : Path) (w v : World) → entering q w ≡ Ok v → ((has w.held q ≡ true) × (v ≡ changed w)) ⊎ (v ≡ changed (with_entered q w))
+enters : (q : Path) (w v : World) → entering q w ≡ Ok v → ((has w.held q ≡ true) × (v ≡ after_change w)) ⊎ (v ≡ after_change (with_entered q w))
 unfolding entering
 enters q w v e = enters_by q w v (has w.held q) (nat_lt (length w.entered) 256) refl e
 
@@ -65,15 +65,15 @@ pub record Entered (shape : Shape) (q : Path) (w v : World) : Type 0 where
 held_there : (t : Tree (List Value)) (ps : List Path) (q : Path) → has ps q ≡ true → All (λ p. there t p ≡ true) ps → there t q ≡ true
 held_there t ps q h all = all_there (λ p. there t p ≡ true) ps q h all
 
-pub entered : (shape : Shape) (q : Path) (w v : World) → Holds shape w.tree → All (λ q. there w.tree q ≡ true) w.held → is_path shape q ≡ true → there w.tree (parent_of q) ≡ true → entering q w ≡ Ok (changed v) → Entered shape q w v
+pub entered : (shape : Shape) (q : Path) (w v : World) → Holds shape w.tree → All (λ q. there w.tree q ≡ true) w.held → is_path shape q ≡ true → there w.tree (parent_of q) ≡ true → entering q w ≡ Ok (after_change v) → Entered shape q w v
 entered shape q w v holds held path parent e =
-    let k = by_case (enters q w (changed v) e) in
+    let k = by_case (enters q w (after_change v) e) in
     record { holds = k.holds; held = k.held; here = k.here; ticks = k.ticks; generation = k.generation }
   where
-    again : has w.held q ≡ true → Entered shape q w (changed w)
+    again : has w.held q ≡ true → Entered shape q w (after_change w)
     again h = record { holds = holds; held = held; here = held_there w.tree w.held q h held; ticks = refl; generation = refl }
 
-    anew : Entered shape q w (changed (with_entered q w))
+    anew : Entered shape q w (after_change (with_entered q w))
     anew = record {
       holds = enter_holds shape w.tree holds q path parent;
       held = All-push (λ p. there (enter w.tree q) p ≡ true) w.held q (All-weaker (λ p. there w.tree p ≡ true) (λ p. there (enter w.tree q) p ≡ true) (λ p. still_there shape w.tree holds q p) w.held held) (entered_there shape w.tree holds q);
@@ -82,7 +82,7 @@ entered shape q w v holds held path parent e =
       generation = refl;
     }
 
-    by_case : ((has w.held q ≡ true) × (changed v ≡ changed w)) ⊎ (changed v ≡ changed (with_entered q w)) → Entered shape q w (changed v)
+    by_case : ((has w.held q ≡ true) × (after_change v ≡ after_change w)) ⊎ (after_change v ≡ after_change (with_entered q w)) → Entered shape q w (after_change v)
     by_case (inl h) = subst (Entered shape q w) (sym h.1) (again h.0)
     by_case (inr h) = subst (Entered shape q w) (sym h) anew
 
@@ -101,7 +101,7 @@ same_method : (methods : List Method) (class number count : ℕ) (method : Metho
 same_method methods class number count method is e = let same : is.method ≡ method = cc (is.is_there, e) in ap (λ (m : Method). m.class.0) (sym same) ∙ is.class_is
 
 module _ (shape : Shape) (methods : List Method) (fits : All (FitsMethod shape methods) methods) (m : Mach) (number : ℕ) (method : Method) (is : slice_get methods number ≡ Some method) where
-  pub ready_invoked : (at : Span) (base : ℕ) (w : World) → Ready shape methods (on_top (Invoke at number base) m) → ticking m.state.world ≡ Ok w → Ready shape methods (started method (drop base m.values) false (cut_to base (in_world w m)))
+  pub ready_invoked : (at : Span) (base : ℕ) (w : World) → Ready shape methods (on_top (Invoke at number base) m) → ticking m.state.world ≡ Ok w → Ready shape methods (method_start method (drop base m.values) false (cut_to base (in_world w m)))
   ready_invoked at base w r ticks =
       let t = ticked m.state.world w ticks in
       let rest = Return m.state.locals (take base m.values) false ∷ m.items in
@@ -115,7 +115,7 @@ module _ (shape : Shape) (methods : List Method) (fits : All (FitsMethod shape m
         few = omega (arith, r.few, t.0);
       }
 
-  pub ready_child : (at : Span) (class base : ℕ) (w v : World) → IsShape shape → Ready shape methods (on_top (Child at class number base) m) → ticking m.state.world ≡ Ok w → Entered shape (child m.path class (own 0 base m.values)) w v → Ready shape methods (started method (drop (suc base) m.values) true (record (cut_to base (in_world v m)) { path = child m.path class (own 0 base m.values) }))
+  pub ready_child : (at : Span) (class base : ℕ) (w v : World) → IsShape shape → Ready shape methods (on_top (Child at class number base) m) → ticking m.state.world ≡ Ok w → Entered shape (child m.path class (own 0 base m.values)) w v → Ready shape methods (method_start method (drop (suc base) m.values) true (record (cut_to base (in_world v m)) { path = child m.path class (own 0 base m.values) }))
   ready_child at class base w v shaped r ticks known =
       let s : Step = record { class = record { 0 = class }; key = key_of (own 0 base m.values) } in
       let t = ticked m.state.world w ticks in

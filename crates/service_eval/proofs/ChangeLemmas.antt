@@ -12,7 +12,7 @@ use Rattle.resolved_service.specs.declared.service.Method.{Method}
 use Rattle.resolved_service.specs.declared.stmt.Action.{Action}
 use Rattle.resolved_service.specs.declared.stmt.Action.TheVariants as action
 use Rattle.resolved_service.specs.Fits.{FitsStep}
-use Rattle.resolved_service.specs.Meaning.{State, Act, and_then, ◌>>=◌, value, effect, called}
+use Rattle.resolved_service.specs.Meaning.{State, Act, and_then, ◌>>=◌, value, effect, call_act}
 use Rattle.resolved_service.specs.Steps.{SetLocal, SetField, PutLocal, PutField, CutLocal, CutField, action_step}
 use Rattle.resolved_service.specs.View.{tree_of}
 use Rattle.resolved_service.specs.World.{nothing}
@@ -114,7 +114,7 @@ begun_fits shape methods p at (assignment.Cut (variable.Local slot) k) base item
 begun_fits shape methods p at (assignment.Cut (variable.Field f) k) base items h rest = (h.1, (tt, rest))
 
 -- the values were taken, and then the change was made
-pub change_turn : (code : Code) (contexts contexts' : Contexts) (m m1 m' : Machine) (at : Span) (base : ℕ) (what : End) (change : Act (Unit {0})) (r : Result (Unit {0}) Stop) → mach code contexts m1 ≡ cut_to base (mach code contexts m) → finish (called code.methods.now TICKS) TICKS m.path at (drop base m.values.items) what (mach code contexts m).state ≡ change (mach code contexts m).state → Does code contexts m1 change r contexts' m' → Goes code contexts m (Finish at what base) r contexts' m'
+pub change_turn : (code : Code) (contexts contexts' : Contexts) (m m1 m' : Machine) (at : Span) (base : ℕ) (what : End) (change : Act (Unit {0})) (r : Result (Unit {0}) Stop) → mach code contexts m1 ≡ cut_to base (mach code contexts m) → finish (call_act code.methods.now TICKS) TICKS m.path at (drop base m.values.items) what (mach code contexts m).state ≡ change (mach code contexts m).state → Does code contexts m1 change r contexts' m' → Goes code contexts m (Finish at what base) r contexts' m'
 change_turn code contexts contexts' m m1 m' at base what change (Ok u) took is h =
     let M = mach code contexts m in
     let M' = mach code contexts' m' in (

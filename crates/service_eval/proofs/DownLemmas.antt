@@ -11,7 +11,7 @@ use Rattle.wave_base.specs.Shapes.{is_path, class_of}
 use Rattle.wave_base.specs.Tree.{there}
 use Rattle.resolved_service.specs.declared.service.Method.{Method}
 use Rattle.resolved_service.specs.Fits.{IsChildClass}
-use Rattle.resolved_service.specs.World.{World, key_of, child, changed, entering, releasing}
+use Rattle.resolved_service.specs.World.{World, key_of, child, after_change, entering, releasing}
 use Rattle.service_eval.specs.inner.Machines.{Mach}
 use Rattle.service_eval.specs.inner.Ready.{FitsItems, Ready}
 use Rattle.service_eval.proofs.CallTurns.{Entered, entered}
@@ -28,10 +28,10 @@ module _ (shape : Shape) (methods : List Method) (m : Mach) (r : Ready shape met
   pub down_parent : there m.state.world.tree (parent_of (child m.path class v)) ≡ true
   down_parent = subst (λ p. there m.state.world.tree p ≡ true) (sym (parent_of-child m.path (record { class = record { 0 = class }; key = key_of v }))) r.here
 
-  pub down_known : (w : World) → entering (child m.path class v) m.state.world ≡ Ok (changed w) → Entered shape (child m.path class v) m.state.world w
+  pub down_known : (w : World) → entering (child m.path class v) m.state.world ≡ Ok (after_change w) → Entered shape (child m.path class v) m.state.world w
   down_known w e = entered shape (child m.path class v) m.state.world w r.holds r.held down_path down_parent e
 
-  pub down_ready : (w : World) (vs : List Value) → entering (child m.path class v) m.state.world ≡ Ok (changed w) → Ready shape methods (record { items = m.items; values = vs; path = child m.path class v; state = record { locals = m.state.locals; world = releasing (child m.path class v) w } })
+  pub down_ready : (w : World) (vs : List Value) → entering (child m.path class v) m.state.world ≡ Ok (after_change w) → Ready shape methods (record { items = m.items; values = vs; path = child m.path class v; state = record { locals = m.state.locals; world = releasing (child m.path class v) w } })
   down_ready w vs e =
       let k = down_known w e in
       record {

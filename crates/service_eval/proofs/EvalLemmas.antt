@@ -8,7 +8,7 @@ use Rattle.wave_base.specs.declared.value.Value.{Value}
 use Rattle.wave_base.specs.declared.value.Value.TheVariants.{Bool as Truth}
 use Rattle.value_ops.specs.Operators.{apply_row}
 use Rattle.resolved_service.specs.declared.service.Method.{Method}
-use Rattle.resolved_service.specs.Meaning.{State, Outcome, Done, Trapped, Left, Act, and_then, ◌>>=◌, ◌>>◌, give, answer, tick, enter_at, back, choose, worth, value, values, called}
+use Rattle.resolved_service.specs.Meaning.{State, Outcome, Done, Trapped, Left, Act, and_then, ◌>>=◌, ◌>>◌, give, answer, tick, enter_at, back, choose, worth, value, values, call_act}
 use Rattle.resolved_service.specs.View.{Tree, Trees, no_trees, tree, Op, And, Or, Call as CallOf, Child as ChildOf}
 use Rattle.resolved_service.specs.World.{World, is_true, child}
 use Rattle.service_eval.specs.declared.stop.Stop.{Stop}
@@ -24,7 +24,7 @@ module _ (methods : List Method) (m : Mach) where
   vs = m.values
 
   abbrev k : ℕ → Path → List Value → Act (Option Value)
-  k = called methods TICKS
+  k = call_act methods TICKS
 
   abbrev go : Outcome (List Value) → Outcome Rest
   go = come_of methods m.items m.path
@@ -33,10 +33,10 @@ module _ (methods : List Method) (m : Mach) where
   push v = give (m.values ++ v ∷ [])
 
   -- a value that is found
-  pub found_value : (t : Tree) (v : Value) → value (called methods TICKS) m.path t m.state ≡ Done v m.state → comes_to methods (on_top (Eval t) m) ≡ comes_to methods (with_value v m)
+  pub found_value : (t : Tree) (v : Value) → value (call_act methods TICKS) m.path t m.state ≡ Done v m.state → comes_to methods (on_top (Eval t) m) ≡ comes_to methods (with_value v m)
   found_value t v h = ap (λ o. come_of methods m.items m.path (and_then o (λ v. give (m.values ++ v ∷ [])))) h
 
-  pub found_fails : (t : Tree) (e : Stop) (w : World) → Traps (value (called methods TICKS) m.path t m.state) e w → Fails (comes_to methods (on_top (Eval t) m)) e w
+  pub found_fails : (t : Tree) (e : Stop) (w : World) → Traps (value (call_act methods TICKS) m.path t m.state) e w → Fails (comes_to methods (on_top (Eval t) m)) e w
   found_fails t e w h = fails_through methods m.items m.path _ e w (traps_then (value k m.path t m.state) push e w h)
 
   pub op_parts : (at : Span) (row : ℕ) (ts : Trees) → comes_to methods (on_top (Eval (Op at row ts)) m) ≡ comes_to methods (on_top (Evals ts) (on_top (Apply at row (length m.values)) m))
@@ -88,16 +88,16 @@ module _ (methods : List Method) (m : Mach) where
 
   module _ (right : Tree) (base : ℕ) where
     pub and_true : is_true (own 0 base m.values) ≡ true → comes_to methods (on_top (AndThen right base) m) ≡ comes_to methods (on_top (Eval right) (cut_to base m))
-    and_true h = ap (λ b. come_of methods m.items m.path (and_then (choose b (value (called methods TICKS) m.path right) (give (Truth false)) m.state) (λ v. give (take base m.values ++ v ∷ [])))) h
+    and_true h = ap (λ b. come_of methods m.items m.path (and_then (choose b (value (call_act methods TICKS) m.path right) (give (Truth false)) m.state) (λ v. give (take base m.values ++ v ∷ [])))) h
 
     pub and_false : is_true (own 0 base m.values) ≡ false → comes_to methods (on_top (AndThen right base) m) ≡ comes_to methods (with_value (Truth false) (cut_to base m))
-    and_false h = ap (λ b. come_of methods m.items m.path (and_then (choose b (value (called methods TICKS) m.path right) (give (Truth false)) m.state) (λ v. give (take base m.values ++ v ∷ [])))) h
+    and_false h = ap (λ b. come_of methods m.items m.path (and_then (choose b (value (call_act methods TICKS) m.path right) (give (Truth false)) m.state) (λ v. give (take base m.values ++ v ∷ [])))) h
 
     pub or_true : is_true (own 0 base m.values) ≡ true → comes_to methods (on_top (OrElse right base) m) ≡ comes_to methods (with_value (Truth true) (cut_to base m))
-    or_true h = ap (λ b. come_of methods m.items m.path (and_then (choose b (give (Truth true)) (value (called methods TICKS) m.path right) m.state) (λ v. give (take base m.values ++ v ∷ [])))) h
+    or_true h = ap (λ b. come_of methods m.items m.path (and_then (choose b (give (Truth true)) (value (call_act methods TICKS) m.path right) m.state) (λ v. give (take base m.values ++ v ∷ [])))) h
 
     pub or_false : is_true (own 0 base m.values) ≡ false → comes_to methods (on_top (OrElse right base) m) ≡ comes_to methods (on_top (Eval right) (cut_to base m))
-    or_false h = ap (λ b. come_of methods m.items m.path (and_then (choose b (give (Truth true)) (value (called methods TICKS) m.path right) m.state) (λ v. give (take base m.values ++ v ∷ [])))) h
+    or_false h = ap (λ b. come_of methods m.items m.path (and_then (choose b (give (Truth true)) (value (call_act methods TICKS) m.path right) m.state) (λ v. give (take base m.values ++ v ∷ [])))) h
 
   pub call_parts : (at : Span) (method : ℕ) (args : Trees) → comes_to methods (on_top (Eval (CallOf at method args)) m) ≡ comes_to methods (on_top (Evals args) (on_top (Invoke at method (length m.values)) m))
   call_parts at method args =
@@ -113,11 +113,11 @@ module _ (methods : List Method) (m : Mach) where
     -- a call of a child with its key and arguments, the call's value being put upon others
     abbrev child_call : Value → List Value → List Value → Act (List Value)
     child_call x given under =
-        tick at >> (enter_at (child m.path class x) at >> (called methods TICKS method (child m.path class x) given >>= (λ r. back >> give (under ++ worth r ∷ []))))
+        tick at >> (enter_at (child m.path class x) at >> (call_act methods TICKS method (child m.path class x) given >>= (λ r. back >> give (under ++ worth r ∷ []))))
 
     abbrev child_value : Value → List Value → Act Value
     child_value x given =
-        tick at >> (enter_at (child m.path class x) at >> (called methods TICKS method (child m.path class x) given >>= (λ r. back >> give (worth r))))
+        tick at >> (enter_at (child m.path class x) at >> (call_act methods TICKS method (child m.path class x) given >>= (λ r. back >> give (worth r))))
 
     put_down : (x : Value) (given : List Value) (st : State) → and_then (child_value x given st) (λ v. give (m.values ++ v ∷ [])) ≡ child_call x given m.values st
     put_down x given st =

@@ -4,7 +4,7 @@ use Rattle.wave_base.specs.declared.limits.TheConstants.{TICKS}
 use Rattle.wave_base.specs.declared.path.Path.{Path}
 use Rattle.wave_base.specs.declared.value.Value.{Value}
 use Rattle.context_tree.specs.Contexts.{Contexts, tree_of as shown}
-use Rattle.resolved_service.specs.Meaning.{State, Outcome, Done, Trapped, Left, and_then, give, value, effects, called}
+use Rattle.resolved_service.specs.Meaning.{State, Outcome, Done, Trapped, Left, and_then, give, value, effects, call_act}
 use Rattle.resolved_service.specs.Steps.{Steps}
 use Rattle.resolved_service.specs.View.{Tree}
 use Rattle.resolved_service.specs.World.{World}
@@ -17,30 +17,30 @@ use Rattle.service_eval.specs.inner.Items.{Eval, Block}
 use Rattle.service_eval.specs.inner.Machines.{Mach, Rest, rest_at, state_of, on_top, come_of, comes_to}
 use Rattle.service_eval.specs.inner.Turns.{mach, Ran}
 use Rattle.service_eval.specs.Worlds.{Holds}
-use Rattle.service_eval.specs.inner.Traces.{uncounted, plain, Fails}
+use Rattle.service_eval.specs.inner.Traces.{uncounted_world, uncounted_outcome, Fails}
 
 -- the values that an outcome leaves, at a place
 abbrev at_end : {A : Type 0} → Path → (A → List Value) → Outcome A → Outcome Rest
 at_end p view o = and_then (and_then o (λ a. give (view a))) (λ vs. give (rest_at p vs))
 
 abbrev blank : State → State
-blank st = record { locals = st.locals; world = uncounted st.world }
+blank st = record { locals = st.locals; world = uncounted_world st.world }
 
-ended : {A : Type 0} (p : Path) (view : A → List Value) (o : Outcome A) (r : Rest) (st : State) → plain (at_end p view o) ≡ plain (Done r st) → (a : A) × (plain o ≡ plain (Done a st)) × (rest_at p (view a) ≡ r)
+ended : {A : Type 0} (p : Path) (view : A → List Value) (o : Outcome A) (r : Rest) (st : State) → uncounted_outcome (at_end p view o) ≡ uncounted_outcome (Done r st) → (a : A) × (uncounted_outcome o ≡ uncounted_outcome (Done a st)) × (rest_at p (view a) ≡ r)
 ended p view (Done a s) r st e = let same : blank s ≡ blank st = cc in let rest : rest_at p (view a) ≡ r = cc in (a, ap (Done a) same, rest)
 ended p view (Trapped k at w) r st e = absurd cc
 ended p view (Left l s) r st e = absurd cc
 
-failed : {A : Type 0} (p : Path) (view : A → List Value) (o : Outcome A) (e : Stop) (w : World) → Fails (plain (at_end p view o)) e w → Fails (plain o) e w
+failed : {A : Type 0} (p : Path) (view : A → List Value) (o : Outcome A) (e : Stop) (w : World) → Fails (uncounted_outcome (at_end p view o)) e w → Fails (uncounted_outcome o) e w
 failed p view o (stop.OutOfMemory _) w h = tt
 failed p view (Done a s) (stop.Trapped t) w h = absurd cc
 failed p view (Trapped k at v) (stop.Trapped t) w h =
-    let a : k ≡ t.kind = cc in let b : at ≡ t.at = cc in let c : uncounted v ≡ uncounted w = cc in λ i. Trapped (a i) (b i) (c i)
+    let a : k ≡ t.kind = cc in let b : at ≡ t.at = cc in let c : uncounted_world v ≡ uncounted_world w = cc in λ i. Trapped (a i) (b i) (c i)
 failed p view (Left l s) (stop.Trapped t) w h = absurd cc
-failed p view (Done a s) (stop.Ended r) w h = let is : plain (Done (rest_at p (view a)) s) ≡ Left h.why h.state = h.is in absurd cc
-failed p view (Trapped k at v) (stop.Ended r) w h = let is : ◌≡◌ {A = Outcome Rest} (plain (Trapped k at v)) (Left h.why h.state) = h.is in absurd cc
+failed p view (Done a s) (stop.Ended r) w h = let is : uncounted_outcome (Done (rest_at p (view a)) s) ≡ Left h.why h.state = h.is in absurd cc
+failed p view (Trapped k at v) (stop.Ended r) w h = let is : ◌≡◌ {A = Outcome Rest} (uncounted_outcome (Trapped k at v)) (Left h.why h.state) = h.is in absurd cc
 failed p view (Left l s) (stop.Ended r) w h =
-    let is : ◌≡◌ {A = Outcome Rest} (plain (Left l s)) (Left h.why h.state) = h.is in
+    let is : ◌≡◌ {A = Outcome Rest} (uncounted_outcome (Left l s)) (Left h.why h.state) = h.is in
     let a : l ≡ h.why = cc in
     let b : blank s ≡ h.state = cc in
     record { why = h.why; state = h.state; is = λ i. Left (a i) (b i); replies = h.replies; leaves = h.leaves }
@@ -54,9 +54,9 @@ module _ (code : Code) (contexts contexts' : Contexts) (m m1 m2 : Machine) (rest
 
   module _ (ss : Steps) (top : mach code contexts m1 ≡ on_top (Block ss) (mach code contexts m)) where
     abbrev body : Outcome (Unit {0})
-    body = effects (called code.methods.now TICKS) TICKS m.path ss (state_of (shown code.shape.now contexts) m)
+    body = effects (call_act code.methods.now TICKS) TICKS m.path ss (state_of (shown code.shape.now contexts) m)
 
-    body_is : comes_to code.methods.now (mach code contexts m1) ≡ plain (at_end m.path (λ _. []) body)
+    body_is : comes_to code.methods.now (mach code contexts m1) ≡ uncounted_outcome (at_end m.path (λ _. []) body)
     body_is = ap (comes_to code.methods.now) top ∙ (λ i. come_of code.methods.now (rests.items i) m.path (and_then body (λ _. give (rests.values i))))
 
     pub part_comes : (r : Result (Unit {0}) Stop) → Ran code (mach code contexts m1) r (mach code contexts' m2) → Comes body r ends
@@ -73,15 +73,15 @@ module _ (code : Code) (contexts contexts' : Contexts) (m m1 m2 : Machine) (rest
 
   module _ (t : Tree) (top : mach code contexts m1 ≡ on_top (Eval t) (mach code contexts m)) where
     abbrev worth : Outcome Value
-    worth = value (called code.methods.now TICKS) m.path t (state_of (shown code.shape.now contexts) m)
+    worth = value (call_act code.methods.now TICKS) m.path t (state_of (shown code.shape.now contexts) m)
 
-    value_is : comes_to code.methods.now (mach code contexts m1) ≡ plain (at_end m.path (λ v. v ∷ []) worth)
+    value_is : comes_to code.methods.now (mach code contexts m1) ≡ uncounted_outcome (at_end m.path (λ v. v ∷ []) worth)
     value_is = ap (comes_to code.methods.now) top ∙ (λ i. come_of code.methods.now (rests.items i) m.path (and_then worth (λ v. give (rests.values i ++ v ∷ []))))
 
-    pub value_comes : Ran code (mach code contexts m1) (Ok tt) (mach code contexts' m2) → (v : Value) × (plain worth ≡ plain (Done v ends)) × (rest_at m.path (v ∷ []) ≡ rest_at m2.path m2.values.items)
+    pub value_comes : Ran code (mach code contexts m1) (Ok tt) (mach code contexts' m2) → (v : Value) × (uncounted_outcome worth ≡ uncounted_outcome (Done v ends)) × (rest_at m.path (v ∷ []) ≡ rest_at m2.path m2.values.items)
     value_comes h = ended m.path (λ v. v ∷ []) worth _ ends (sym value_is ∙ h.0)
 
-    pub value_fails : (e : Stop) → Ran code (mach code contexts m1) (Err e) (mach code contexts' m2) → Fails (plain worth) e ends.world
+    pub value_fails : (e : Stop) → Ran code (mach code contexts m1) (Err e) (mach code contexts' m2) → Fails (uncounted_outcome worth) e ends.world
     value_fails e h = failed m.path (λ v. v ∷ []) worth e ends.world (subst (λ o. Fails o e ends.world) value_is h.0)
 
 pub holds_after : (code : Code) (before after : Mach) (r : Result (Unit {0}) Stop) → Ran code before r after → Holds code.shape.now after.state.world.tree

@@ -8,7 +8,7 @@ use Rattle.wave_base.specs.declared.value.Value.TheVariants.{Int}
 use Rattle.value_ops.specs.Kinds.{Answer}
 use Rattle.value_ops.specs.Operators.{apply_row}
 use Rattle.resolved_service.specs.declared.service.Method.{Method}
-use Rattle.resolved_service.specs.Meaning.{State, Outcome, Done, Trapped, Left, Act, and_then, ◌>>◌, give, answer, with_world, tick, choose, set_local, for_test, for_body, while_turns, value, effects, row_lt, row_add, called}
+use Rattle.resolved_service.specs.Meaning.{State, Outcome, Done, Trapped, Left, Act, and_then, ◌>>◌, give, answer, with_world, tick, choose, set_local, for_test, for_body, while_turns, value, effects, row_lt, row_add, call_act}
 use Rattle.resolved_service.specs.Steps.{Steps}
 use Rattle.resolved_service.specs.View.{Tree}
 use Rattle.resolved_service.specs.World.{World, nothing, is_true, ticking}
@@ -31,19 +31,19 @@ gives_fails a at st f (stop.Trapped t) h = ap (λ a. and_then (answer a at st) f
 
 module _ (methods : List Method) (m : Mach) (at : Span) (base : ℕ) where
   abbrev does : End → Outcome (Unit {0})
-  does what = finish (called methods TICKS) TICKS m.path at (drop base m.values) what m.state
+  does what = finish (call_act methods TICKS) TICKS m.path at (drop base m.values) what m.state
 
-  pub finished : (what : End) (st : State) → finish (called methods TICKS) TICKS m.path at (drop base m.values) what m.state ≡ Done tt st → comes_to methods (on_top (Finish at what base) m) ≡ comes_to methods (in_state st (cut_to base m))
+  pub finished : (what : End) (st : State) → finish (call_act methods TICKS) TICKS m.path at (drop base m.values) what m.state ≡ Done tt st → comes_to methods (on_top (Finish at what base) m) ≡ comes_to methods (in_state st (cut_to base m))
   finished what st h = ap (λ o. come_of methods m.items m.path (and_then o (λ _. give (take base m.values)))) h
 
-  pub not_finished : (what : End) (e : Stop) (w : World) → Traps (finish (called methods TICKS) TICKS m.path at (drop base m.values) what m.state) e w → Fails (comes_to methods (on_top (Finish at what base) m)) e w
+  pub not_finished : (what : End) (e : Stop) (w : World) → Traps (finish (call_act methods TICKS) TICKS m.path at (drop base m.values) what m.state) e w → Fails (comes_to methods (on_top (Finish at what base) m)) e w
   not_finished what e w h = fails_through methods m.items m.path _ e w (traps_then (does what) (λ _. give (take base m.values)) e w h)
 
   pub branch_true : (body other : Steps) → is_true (own 0 base m.values) ≡ true → comes_to methods (on_top (Finish at (Branch body other) base) m) ≡ comes_to methods (on_top (Block body) (cut_to base m))
-  branch_true body other h = ap (λ b. come_of methods m.items m.path (and_then (choose b (effects (called methods TICKS) TICKS m.path body) (effects (called methods TICKS) TICKS m.path other) m.state) (λ _. give (take base m.values)))) h
+  branch_true body other h = ap (λ b. come_of methods m.items m.path (and_then (choose b (effects (call_act methods TICKS) TICKS m.path body) (effects (call_act methods TICKS) TICKS m.path other) m.state) (λ _. give (take base m.values)))) h
 
   pub branch_false : (body other : Steps) → is_true (own 0 base m.values) ≡ false → comes_to methods (on_top (Finish at (Branch body other) base) m) ≡ comes_to methods (on_top (Block other) (cut_to base m))
-  branch_false body other h = ap (λ b. come_of methods m.items m.path (and_then (choose b (effects (called methods TICKS) TICKS m.path body) (effects (called methods TICKS) TICKS m.path other) m.state) (λ _. give (take base m.values)))) h
+  branch_false body other h = ap (λ b. come_of methods m.items m.path (and_then (choose b (effects (call_act methods TICKS) TICKS m.path body) (effects (call_act methods TICKS) TICKS m.path other) m.state) (λ _. give (take base m.values)))) h
 
 -- loops: by the test's value
 module _ (at : Span) (inner : Act (Unit {0})) (test : Act Value) where
@@ -60,10 +60,10 @@ module _ (at : Span) (inner : Act (Unit {0})) (test : Act Value) where
 
 module _ (methods : List Method) (m : Mach) (at : Span) (body : Steps) where
   abbrev k : ℕ → Path → List Value → Act (Option Value)
-  k = called methods TICKS
+  k = call_act methods TICKS
 
   abbrev inner : Act (Unit {0})
-  inner = effects (called methods TICKS) TICKS m.path body
+  inner = effects (call_act methods TICKS) TICKS m.path body
 
   pub turns_parts : (test : Tree) → m.state.world.ticks ≤ TICKS → comes_to methods (on_top (Turns at test body) m) ≡ comes_to methods (on_top (Eval test) (on_top (Check at test body (length m.values)) m))
   turns_parts test few =
@@ -101,10 +101,10 @@ module _ (methods : List Method) (m : Mach) (at : Span) (counter : ℕ) where
 
   module _ (body : Steps) where
     abbrev turn : Act (Unit {0})
-    turn = for_body counter at (effects (called methods TICKS) TICKS m.path body)
+    turn = for_body counter at (effects (call_act methods TICKS) TICKS m.path body)
 
     abbrev others : Act (Unit {0})
-    others = while_turns TICKS (for_test counter at) (for_body counter at (effects (called methods TICKS) TICKS m.path body)) at
+    others = while_turns TICKS (for_test counter at) (for_body counter at (effects (call_act methods TICKS) TICKS m.path body)) at
 
     pub again_is : (v : Value) → apply_row row_add (get_or m.state.locals counter nothing ∷ Int (pos 1) ∷ []) ≡ Ok v → comes_to methods (on_top (Again at counter body) m) ≡ comes_to methods (on_top (Counts at counter body) (in_state (record { locals = slice_set m.state.locals counter v; world = m.state.world }) m))
     again_is v h = ap (λ a. come_of methods m.items m.path (and_then (and_then (answer a at m.state) (set_local counter)) (λ _. others >> give m.values))) h
@@ -141,4 +141,4 @@ module _ (methods : List Method) (m : Mach) (at : Span) (counter : ℕ) where
             ∙ ap (λ o. come_of methods m.items m.path (and_then o (λ _. give m.values))) (turn_more at turn (for_test counter at) v m.state h)
             ∙ ap (λ a. come_of methods m.items m.path (and_then (and_then (with_world a at m.state) (λ _. turn >> while_turns TICKS (for_test counter at) turn at)) (λ _. give m.values))) t
             ∙ ap (come_of methods m.items m.path)
-            (again_then (effects (called methods TICKS) TICKS m.path body (record { locals = slice_set m.state.locals (counter + 2) (get_or m.state.locals counter nothing); world = w })) (next counter at) (while_turns TICKS (for_test counter at) turn at) m.values)
+            (again_then (effects (call_act methods TICKS) TICKS m.path body (record { locals = slice_set m.state.locals (counter + 2) (get_or m.state.locals counter nothing); world = w })) (next counter at) (while_turns TICKS (for_test counter at) turn at) m.values)

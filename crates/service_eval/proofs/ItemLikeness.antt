@@ -7,17 +7,17 @@ use Rattle.wave_base.specs.declared.value.Value.{Value}
 use Rattle.wave_base.specs.declared.value.Value.TheVariants.{Int, Bool as Truth}
 use Rattle.value_ops.specs.Operators.{apply_row}
 use Rattle.resolved_service.specs.declared.service.Method.{Method}
-use Rattle.resolved_service.specs.Meaning.{Returned, Finished, Outcome, Done, Trapped, Left, Act, ◌>>=◌, give, answer, tick, enter_at, choose, set_local, put_field, row_add, row_put, row_cut, value, values, while_turns, for_test, for_body, effect, effects, called, worth}
+use Rattle.resolved_service.specs.Meaning.{Returned, Finished, Outcome, Done, Trapped, Left, Act, ◌>>=◌, give, answer, tick, enter_at, choose, set_local, put_field, row_add, row_put, row_cut, value, values, while_turns, for_test, for_body, effect, effects, call_act, worth}
 use Rattle.resolved_service.specs.Steps.{Steps}
 use Rattle.resolved_service.specs.View.{Tree}
 use Rattle.resolved_service.specs.World.{nothing, is_true, child, read_field, set_field}
 use Rattle.service_eval.specs.inner.Items.{End, SetLocal, SetField, PutLocal, PutField, CutLocal, CutField, Branch, Require, Send, Spawn, Drop, Returns, Finishes, Item, Eval, Evals, Apply, AndThen, OrElse, Invoke, Child, Block, Begin, Finish, Turns, Check, Counts, Again, Return}
-use Rattle.service_eval.specs.inner.Machines.{rest_at, own, act, finish, turn_on, next, path_after, returned, come_of}
-use Rattle.service_eval.specs.inner.Traces.{plain}
+use Rattle.service_eval.specs.inner.Machines.{rest_at, own, act, finish, turn_on, next, path_after, after_return, come_of}
+use Rattle.service_eval.specs.inner.Traces.{uncounted_outcome}
 use Rattle.service_eval.proofs.Likeness.{Few, Same, counted, Like, then_like, give_like, choose_like, answered, answer_like, tick_like, enter_like, send_like, spawn_like, demand_like, calls, same_value, same_values, same_effect, same_effects, same_while, same_for}
 
 module _ (methods : List Method) (p : Path) where
-  finish_like : (what : End) (at : Span) (vs : List Value) → Like TICKS (finish (called methods TICKS) TICKS p at vs what) (finish (called methods TICKS) TICKS p at vs what)
+  finish_like : (what : End) (at : Span) (vs : List Value) → Like TICKS (finish (call_act methods TICKS) TICKS p at vs what) (finish (call_act methods TICKS) TICKS p at vs what)
   unfolding set_field read_field
   finish_like (SetLocal slot) at vs st c h = (refl, h)
   finish_like (SetField f) at vs st c h = (refl, h)
@@ -26,8 +26,8 @@ module _ (methods : List Method) (p : Path) where
   finish_like (CutLocal slot) at vs st c h = answered TICKS (apply_row row_cut (get_or st.locals slot nothing ∷ get_or vs 0 nothing ∷ [])) at (set_local slot) (λ v st c h. (refl, h)) st c h
   finish_like (CutField f) at vs st c h = answered TICKS (apply_row row_cut (read_field f p st.world ∷ get_or vs 0 nothing ∷ [])) at (put_field f p) (λ v st c h. (refl, h)) st c h
   finish_like (Branch body other) at vs st c h =
-      let here = effects (called methods TICKS) TICKS p body in
-      let there = effects (called methods TICKS) TICKS p other in
+      let here = effects (call_act methods TICKS) TICKS p body in
+      let there = effects (call_act methods TICKS) TICKS p other in
       choose_like TICKS (is_true (get_or vs 0 nothing)) here here there there (same_effects methods TICKS p body TICKS (omega arith)) (same_effects methods TICKS p other TICKS (omega arith)) st c h
   finish_like Require at vs st c h = demand_like TICKS (is_true (get_or vs 0 nothing)) at st c h
   finish_like (Send label) at vs st c h = send_like TICKS label (get_or vs 0 nothing) at st c h
@@ -41,10 +41,10 @@ module _ (methods : List Method) (p : Path) where
   then_give a f h st c l = then_like TICKS (a st) (a (counted c st)) _ _ (h st c l) (λ x. give_like TICKS (f x))
 
   abbrev here : Steps → Act (Unit {0})
-  here body = effects (called methods TICKS) TICKS p body
+  here body = effects (call_act methods TICKS) TICKS p body
 
   abbrev found : Tree → Act Value
-  found t = value (called methods TICKS) p t
+  found t = value (call_act methods TICKS) p t
 
   turn_like : (at : Span) (test : Tree) (body : Steps) (t : Value) → Like TICKS (turn_on (found test) (here body) at t) (turn_on (found test) (here body) at t)
   turn_like at test body t =
@@ -58,7 +58,7 @@ module _ (methods : List Method) (p : Path) where
 
   act_like : (item : Item) (vs : List Value) → Like TICKS (act methods p item vs) (act methods p item vs)
   act_like (Eval t) vs = then_give (found t) (λ v. vs ++ v ∷ []) (same_value methods TICKS p t TICKS (omega arith))
-  act_like (Evals ts) vs = then_give (values (called methods TICKS) p ts) (λ more. vs ++ more) (same_values methods TICKS p ts TICKS (omega arith))
+  act_like (Evals ts) vs = then_give (values (call_act methods TICKS) p ts) (λ more. vs ++ more) (same_values methods TICKS p ts TICKS (omega arith))
   act_like (Apply at row base) vs = then_give (answer (apply_row row (drop base vs)) at) (λ v. take base vs ++ v ∷ []) (answer_like TICKS (apply_row row (drop base vs)) at)
   act_like (AndThen right base) vs =
       then_give (choose (is_true (own 0 base vs)) (found right) (give (Truth false))) (λ v. take base vs ++ v ∷ [])
@@ -67,15 +67,15 @@ module _ (methods : List Method) (p : Path) where
       then_give (choose (is_true (own 0 base vs)) (give (Truth true)) (found right)) (λ v. take base vs ++ v ∷ [])
       (choose_like TICKS (is_true (own 0 base vs)) (give (Truth true)) (give (Truth true)) (found right) (found right) (give_like TICKS (Truth true)) (same_value methods TICKS p right TICKS (omega arith)))
   act_like (Invoke at method base) vs =
-      tick_like TICKS at _ _ (λ i e st c h. then_like i (called methods TICKS method p (drop base vs) st) (called methods TICKS method p (drop base vs) (counted c st)) _ _ (calls methods TICKS method p (drop base vs) i e st c h) (λ r. give_like i (take base vs ++ worth r ∷ [])))
+      tick_like TICKS at _ _ (λ i e st c h. then_like i (call_act methods TICKS method p (drop base vs) st) (call_act methods TICKS method p (drop base vs) (counted c st)) _ _ (calls methods TICKS method p (drop base vs) i e st c h) (λ r. give_like i (take base vs ++ worth r ∷ [])))
   act_like (Child at class method base) vs =
       let q = child p class (own 0 base vs) in
       tick_like TICKS at _ _
       (λ i e st c h. then_like i (enter_at q at st) (enter_at q at (counted c st)) _ _ (enter_like i q at st c h)
-      (λ u st c h. then_like i (called methods TICKS method q (drop (suc base) vs) st) (called methods TICKS method q (drop (suc base) vs) (counted c st)) _ _ (calls methods TICKS method q (drop (suc base) vs) i e st c h) (λ r st c h. (refl, h))))
+      (λ u st c h. then_like i (call_act methods TICKS method q (drop (suc base) vs) st) (call_act methods TICKS method q (drop (suc base) vs) (counted c st)) _ _ (calls methods TICKS method q (drop (suc base) vs) i e st c h) (λ r st c h. (refl, h))))
   act_like (Block steps) vs = then_give (here steps) (λ _. vs) (same_effects methods TICKS p steps TICKS (omega arith))
-  act_like (Begin s) vs = then_give (effect (called methods TICKS) TICKS p s) (λ _. vs) (same_effect methods TICKS p s TICKS (omega arith))
-  act_like (Finish at what base) vs = then_give (finish (called methods TICKS) TICKS p at (drop base vs) what) (λ _. take base vs) (finish_like what at (drop base vs))
+  act_like (Begin s) vs = then_give (effect (call_act methods TICKS) TICKS p s) (λ _. vs) (same_effect methods TICKS p s TICKS (omega arith))
+  act_like (Finish at what base) vs = then_give (finish (call_act methods TICKS) TICKS p at (drop base vs) what) (λ _. take base vs) (finish_like what at (drop base vs))
   act_like (Turns at test body) vs = then_give (while_turns TICKS (found test) (here body) at) (λ _. vs) (same_while methods TICKS p test body at TICKS (omega arith))
   act_like (Check at test body base) vs = then_give (turn_on (found test) (here body) at (own 0 base vs)) (λ _. take base vs) (turn_like at test body (own 0 base vs))
   act_like (Counts at counter body) vs = counts_like at counter body vs
@@ -84,16 +84,16 @@ module _ (methods : List Method) (p : Path) where
       (λ u. counts_like at counter body vs)
   act_like (Return locals below up) vs = give_like TICKS vs
 
-  returned_like : (locals below : List Value) (o o' : Outcome (List Value)) → Same TICKS o o' → Same TICKS (returned locals below o) (returned locals below o')
-  returned_like locals below o o' h = (plainly o ∙ ap (λ x. plain (returned locals below x)) h.0 ∙ sym (plainly o'), few o h.1)
+  returned_like : (locals below : List Value) (o o' : Outcome (List Value)) → Same TICKS o o' → Same TICKS (after_return locals below o) (after_return locals below o')
+  returned_like locals below o o' h = (plainly o ∙ ap (λ x. uncounted_outcome (after_return locals below x)) h.0 ∙ sym (plainly o'), few o h.1)
     where
-      few : (o : Outcome (List Value)) → Few TICKS o → Few TICKS (returned locals below o)
+      few : (o : Outcome (List Value)) → Few TICKS o → Few TICKS (after_return locals below o)
       few (Done vs st) h = h
       few (Trapped t at w) h = tt
       few (Left (Returned r) st) h = h
       few (Left (Finished r) st) h = h
 
-      plainly : (o : Outcome (List Value)) → plain (returned locals below o) ≡ plain (returned locals below (plain o))
+      plainly : (o : Outcome (List Value)) → uncounted_outcome (after_return locals below o) ≡ uncounted_outcome (after_return locals below (uncounted_outcome o))
       plainly (Done vs st) = refl
       plainly (Trapped t at w) = refl
       plainly (Left (Returned r) st) = refl
@@ -103,7 +103,7 @@ module _ (methods : List Method) (p : Path) where
 module _ (methods : List Method) where
   pub come_like : (items : List Item) (p : Path) (o o' : Outcome (List Value)) → Same TICKS o o' → come_of methods items p o ≡ come_of methods items p o'
   come_like [] p o o' h = (then_like TICKS o o' (λ vs. give (rest_at p vs)) (λ vs. give (rest_at p vs)) h (λ vs. give_like TICKS (rest_at p vs))).0
-  come_like (Return locals below up ∷ items) p o o' h = come_like items (path_after up p) (returned locals below o) (returned locals below o') (returned_like methods p locals below o o' h)
+  come_like (Return locals below up ∷ items) p o o' h = come_like items (path_after up p) (after_return locals below o) (after_return locals below o') (returned_like methods p locals below o o' h)
   come_like (Eval t ∷ items) p o o' h = come_like items p _ _ (then_like TICKS o o' _ _ h (act_like methods p (Eval t)))
   come_like (Evals ts ∷ items) p o o' h = come_like items p _ _ (then_like TICKS o o' _ _ h (act_like methods p (Evals ts)))
   come_like (Apply at row base ∷ items) p o o' h = come_like items p _ _ (then_like TICKS o o' _ _ h (act_like methods p (Apply at row base)))

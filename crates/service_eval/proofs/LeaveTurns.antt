@@ -19,7 +19,7 @@ use Rattle.service_eval.specs.inner.Machines.{Mach, Rest, items_of, mach_of, on_
 use Rattle.service_eval.specs.inner.Ready.{FitsItems, Ready, Follows}
 use Rattle.service_eval.specs.inner.Turns.{mach, Leaves}
 use Rattle.service_eval.specs.Worlds.{Holds}
-use Rattle.service_eval.specs.inner.Traces.{uncounted, Ends, Fails}
+use Rattle.service_eval.specs.inner.Traces.{uncounted_world, Ends, Fails}
 use Rattle.service_eval.specs.inner.Weight.{load}
 use Rattle.service_eval.proofs.CallTurns.{ready_back}
 use Rattle.service_eval.proofs.LighterTurns.{left_lighter}
@@ -82,7 +82,7 @@ module _ (code : Code) (contexts : Contexts) (m m1 : Machine) (ready : Ready cod
   none_given_back r none =
       let ends : Ends (come_of code.methods.now M.items M.path (Left (Returned r) M.state)) r M.state.world = record {
         why = Returned r;
-        state = record { locals = M.state.locals; world = uncounted M.state.world };
+        state = record { locals = M.state.locals; world = uncounted_world M.state.world };
         is = return_through code.methods.now M.items M.path r M.state ∙ ap (λ items. come_of code.methods.now items M.path (Left (Returned r) M.state)) none;
         replies = refl;
         leaves = refl;

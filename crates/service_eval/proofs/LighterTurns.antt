@@ -13,7 +13,7 @@ use Rattle.resolved_service.specs.View.{Tree, Trees, no_trees, tree, Op, And, Or
 use Rattle.service_eval.specs.declared.work.Caller.{Caller}
 use Rattle.service_eval.specs.inner.Items as i
 use Rattle.service_eval.specs.inner.Items.{Item, Eval, Evals, Apply, AndThen, OrElse, Invoke, Child, Block, Begin, Finish, Turns, Check, Counts, Again, Return, End, Branch, else_steps, return_of, to_return}
-use Rattle.service_eval.specs.inner.Machines.{Mach, on_top, with_value, cut_to, in_state, back_to, started, with_last}
+use Rattle.service_eval.specs.inner.Machines.{Mach, on_top, with_value, cut_to, in_state, back_to, method_start, with_last}
 use Rattle.service_eval.specs.inner.Weight.{tree_weight, step_weight, item_weight, items_weight, last_weight, methods_weight, load}
 use Rattle.service_eval.proofs.ElseLemmas.{else_weighs}
 use Rattle.service_eval.proofs.WeightLemmas.{tree_weighs, items_less, lighter, no_heavier, lighter_ticked, method_weighs, turn_weighs}
@@ -184,7 +184,7 @@ module _ (methods : List Method) (m : Mach) where
 
     module _ (path : Path) (number : ℕ) (method : Method) (given : List Value) (up : Bool) (is : slice_get methods number ≡ Some method) where
       abbrev called : Mach
-      called = started method given up (record m { path = path; values = vs; state = st })
+      called = method_start method given up (record m { path = path; values = vs; state = st })
 
       called_weighs : items_weight few called.items < methods_weight few methods + (1 + items_weight (suc few) m.items)
       called_weighs =

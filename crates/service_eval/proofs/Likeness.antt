@@ -12,11 +12,11 @@ use Rattle.value_ops.specs.Operators.{apply_row}
 use Rattle.resolved_service.specs.declared.service.Last.{Last}
 use Rattle.resolved_service.specs.declared.service.Method.{Method}
 use Rattle.resolved_service.specs.declared.service.Phase.{Phase}
-use Rattle.resolved_service.specs.Meaning.{State, Returned, Finished, Outcome, Done, Trapped, Left, Act, and_then, ◌>>=◌, ◌>>◌, give, answer, with_world, tick, enter_at, choose, set_local, put_field, demand, leave, row_add, row_put, row_cut, worth, value, values, while_turns, for_test, for_body, maybe_value, effect, effects, else_effect, last_value, with_locals, with_blanks, run_method, called, phases_run}
+use Rattle.resolved_service.specs.Meaning.{State, Returned, Finished, Outcome, Done, Trapped, Left, Act, and_then, ◌>>=◌, ◌>>◌, give, answer, with_world, tick, enter_at, choose, set_local, put_field, demand, leave, row_add, row_put, row_cut, worth, value, values, while_turns, for_test, for_body, maybe_value, effect, effects, else_effect, last_value, with_locals, with_blanks, run_method, call_act, phases_run}
 use Rattle.resolved_service.specs.Steps.{Step, SetLocal, SetField, PutLocal, PutField, CutLocal, CutField, If, While, For, Require, Send, Spawn, Do, Return, Finish, Steps, no_steps, step, Else, no_else, otherwise, steps_in}
 use Rattle.resolved_service.specs.View.{Tree, Const, Local, Field, Above, Op, And, Or, Call, Child, Trees, no_trees, tree, tree_of}
-use Rattle.resolved_service.specs.World.{nothing, is_true, child, took, changed, with_entered, has, entering, sending, spawning, read_field, read_above, set_field}
-use Rattle.service_eval.specs.inner.Traces.{uncounted, plain}
+use Rattle.resolved_service.specs.World.{nothing, is_true, child, after_tick, after_change, with_entered, has, entering, sending, spawning, read_field, read_above, set_field}
+use Rattle.service_eval.specs.inner.Traces.{uncounted_world, uncounted_outcome}
 
 -- at most so many ticks are left
 abbrev pub Few : {A : Type 0} → ℕ → Outcome A → Type 0
@@ -26,7 +26,7 @@ Few k (Left l st) = st.world.ticks ≤ k
 
 -- the same outcome, changes of place uncounted, after which at most so many ticks are left
 abbrev pub Same : {A : Type 0} → ℕ → Outcome A → Outcome A → Type 0
-Same k o o' = (plain o ≡ plain o') × Few k o
+Same k o o' = (uncounted_outcome o ≡ uncounted_outcome o') × Few k o
 
 -- another number of changes of place
 abbrev pub counted : ℕ → State → State
@@ -42,31 +42,31 @@ weaker i j (Left x st) o' l h = let few : st.world.ticks ≤ i = h.1 in (h.0, om
 
 -- states that differ in the number of changes alone
 abbrev blank : State → State
-blank st = record { locals = st.locals; world = uncounted st.world }
+blank st = record { locals = st.locals; world = uncounted_world st.world }
 
 recounted : (s s' : State) → blank s ≡ blank s' → counted s'.world.changes s ≡ s'
 recounted s s' e = ap (counted s'.world.changes) e
 
 pub then_like : {A B : Type 0} (j : ℕ) (o o' : Outcome A) (f f' : A → Act B) → Same j o o' → ((a : A) → Like j (f a) (f' a)) → Same j (and_then o f) (and_then o' f')
 then_like j (Done a st) (Done b s) f f' h g =
-    let is : plain (Done a st) ≡ plain (Done b s) = h.0 in
+    let is : uncounted_outcome (Done a st) ≡ uncounted_outcome (Done b s) = h.0 in
     let x : a ≡ b = cc in
     let y : blank st ≡ blank s = cc in
     subst (λ z. Same j (f a st) (f' z s)) x (subst (λ z. Same j (f a st) (f' a z)) (recounted st s y) (g a st s.world.changes h.1))
-then_like {A} j (Done a st) (Trapped t at w) f f' h g = let is : ◌≡◌ {A = Outcome A} (plain (Done a st)) (plain (Trapped t at w)) = h.0 in absurd cc
-then_like {A} j (Done a st) (Left l s) f f' h g = let is : ◌≡◌ {A = Outcome A} (plain (Done a st)) (plain (Left l s)) = h.0 in absurd cc
-then_like {A} j (Trapped t at w) (Done b s) f f' h g = let is : ◌≡◌ {A = Outcome A} (plain (Trapped t at w)) (plain (Done b s)) = h.0 in absurd cc
+then_like {A} j (Done a st) (Trapped t at w) f f' h g = let is : ◌≡◌ {A = Outcome A} (uncounted_outcome (Done a st)) (uncounted_outcome (Trapped t at w)) = h.0 in absurd cc
+then_like {A} j (Done a st) (Left l s) f f' h g = let is : ◌≡◌ {A = Outcome A} (uncounted_outcome (Done a st)) (uncounted_outcome (Left l s)) = h.0 in absurd cc
+then_like {A} j (Trapped t at w) (Done b s) f f' h g = let is : ◌≡◌ {A = Outcome A} (uncounted_outcome (Trapped t at w)) (uncounted_outcome (Done b s)) = h.0 in absurd cc
 then_like {A} j (Trapped t at w) (Trapped t' at' w') f f' h g =
-    let is : ◌≡◌ {A = Outcome A} (plain (Trapped t at w)) (plain (Trapped t' at' w')) = h.0 in
+    let is : ◌≡◌ {A = Outcome A} (uncounted_outcome (Trapped t at w)) (uncounted_outcome (Trapped t' at' w')) = h.0 in
     let x : t ≡ t' = cc in
     let y : at ≡ at' = cc in
-    let z : uncounted w ≡ uncounted w' = cc in
+    let z : uncounted_world w ≡ uncounted_world w' = cc in
     ((λ i. Trapped (x i) (y i) (z i)), tt)
-then_like {A} j (Trapped t at w) (Left l s) f f' h g = let is : ◌≡◌ {A = Outcome A} (plain (Trapped t at w)) (plain (Left l s)) = h.0 in absurd cc
-then_like {A} j (Left l st) (Done b s) f f' h g = let is : ◌≡◌ {A = Outcome A} (plain (Left l st)) (plain (Done b s)) = h.0 in absurd cc
-then_like {A} j (Left l st) (Trapped t at w) f f' h g = let is : ◌≡◌ {A = Outcome A} (plain (Left l st)) (plain (Trapped t at w)) = h.0 in absurd cc
+then_like {A} j (Trapped t at w) (Left l s) f f' h g = let is : ◌≡◌ {A = Outcome A} (uncounted_outcome (Trapped t at w)) (uncounted_outcome (Left l s)) = h.0 in absurd cc
+then_like {A} j (Left l st) (Done b s) f f' h g = let is : ◌≡◌ {A = Outcome A} (uncounted_outcome (Left l st)) (uncounted_outcome (Done b s)) = h.0 in absurd cc
+then_like {A} j (Left l st) (Trapped t at w) f f' h g = let is : ◌≡◌ {A = Outcome A} (uncounted_outcome (Left l st)) (uncounted_outcome (Trapped t at w)) = h.0 in absurd cc
 then_like {A} j (Left l st) (Left l' s) f f' h g =
-    let is : ◌≡◌ {A = Outcome A} (plain (Left l st)) (plain (Left l' s)) = h.0 in
+    let is : ◌≡◌ {A = Outcome A} (uncounted_outcome (Left l st)) (uncounted_outcome (Left l' s)) = h.0 in
     let x : l ≡ l' = cc in
     let y : blank st ≡ blank s = cc in
     ((λ i. Left (x i) (y i)), h.1)
@@ -90,9 +90,9 @@ unfolding entering
 enter_like j q at st c h =
     let w = st.world in
     let w' = (counted c st).world in
-    elim (has st.world.held q) as (λ b. Same j (with_world (if b then Ok (changed w) else (if nat_lt (length w.entered) CONTEXTS then Ok (changed (with_entered q w)) else Err trap.Reach)) at st) (with_world (if b then Ok (changed w') else (if nat_lt (length w.entered) CONTEXTS then Ok (changed (with_entered q w')) else Err trap.Reach)) at (counted c st))) [
+    elim (has st.world.held q) as (λ b. Same j (with_world (if b then Ok (after_change w) else (if nat_lt (length w.entered) CONTEXTS then Ok (after_change (with_entered q w)) else Err trap.Reach)) at st) (with_world (if b then Ok (after_change w') else (if nat_lt (length w.entered) CONTEXTS then Ok (after_change (with_entered q w')) else Err trap.Reach)) at (counted c st))) [
       | true ↦ (refl, h)
-      | false ↦ elim (nat_lt (length w.entered) CONTEXTS) as (λ b. Same j (with_world (if b then Ok (changed (with_entered q w)) else Err trap.Reach) at st) (with_world (if b then Ok (changed (with_entered q w')) else Err trap.Reach) at (counted c st))) [ true ↦ (refl, h) | false ↦ (refl, tt) ]
+      | false ↦ elim (nat_lt (length w.entered) CONTEXTS) as (λ b. Same j (with_world (if b then Ok (after_change (with_entered q w)) else Err trap.Reach) at st) (with_world (if b then Ok (after_change (with_entered q w')) else Err trap.Reach) at (counted c st))) [ true ↦ (refl, h) | false ↦ (refl, tt) ]
     ]
 
 pub send_like : (j : ℕ) (label : List ℕ) (x : Value) (at : Span) → Like j (λ st. with_world (sending label x st.world) at st) (λ st. with_world (sending label x st.world) at st)
@@ -119,7 +119,7 @@ demand_like j true at st c h = (refl, h)
 demand_like j false at st c h = (refl, tt)
 
 -- behind a tick fewer ticks are left
-took_like : {B : Type 0} (n j : ℕ) (st : State) (c : ℕ) (at : Span) (f f' : Unit {0} → Act B) → n ≤ j → ((i : ℕ) → suc i ≤ j → Like i (f tt) (f' tt)) → Same j (and_then (with_world (took n st.world) at st) f) (and_then (with_world (took n (counted c st).world) at (counted c st)) f')
+took_like : {B : Type 0} (n j : ℕ) (st : State) (c : ℕ) (at : Span) (f f' : Unit {0} → Act B) → n ≤ j → ((i : ℕ) → suc i ≤ j → Like i (f tt) (f' tt)) → Same j (and_then (with_world (after_tick n st.world) at st) f) (and_then (with_world (after_tick n (counted c st).world) at (counted c st)) f')
 took_like zero j st c at f f' l h = (refl, tt)
 took_like (suc n) j st c at f f' l h =
     let after : State = record { locals = st.locals; world = record st.world { ticks = n } } in
@@ -128,12 +128,12 @@ took_like (suc n) j st c at f f' l h =
 pub tick_like : {B : Type 0} (j : ℕ) (at : Span) (f f' : Unit {0} → Act B) → ((i : ℕ) → suc i ≤ j → Like i (f tt) (f' tt)) → Like j (tick at >>= f) (tick at >>= f')
 tick_like j at f f' h st c l = took_like st.world.ticks j st c at f f' l h
 
-took_self : (n j : ℕ) (st : State) (c : ℕ) (at : Span) → n ≤ j → Same j (with_world (took n st.world) at st) (with_world (took n (counted c st).world) at (counted c st))
+took_self : (n j : ℕ) (st : State) (c : ℕ) (at : Span) → n ≤ j → Same j (with_world (after_tick n st.world) at st) (with_world (after_tick n (counted c st).world) at (counted c st))
 took_self zero j st c at l = (refl, tt)
 took_self (suc n) j st c at l = (refl, omega arith)
 
 -- where no tick is left, nothing comes behind it
-no_tick : (n j : ℕ) (st : State) (c : ℕ) (at : Span) (f : Unit {0} → Act (Unit {0})) → n ≤ j → j ≤ 0 → Same j (with_world (took n st.world) at st) (and_then (with_world (took n (counted c st).world) at (counted c st)) f) × Same j (and_then (with_world (took n st.world) at st) f) (with_world (took n (counted c st).world) at (counted c st))
+no_tick : (n j : ℕ) (st : State) (c : ℕ) (at : Span) (f : Unit {0} → Act (Unit {0})) → n ≤ j → j ≤ 0 → Same j (with_world (after_tick n st.world) at st) (and_then (with_world (after_tick n (counted c st).world) at (counted c st)) f) × Same j (and_then (with_world (after_tick n st.world) at st) f) (with_world (after_tick n (counted c st).world) at (counted c st))
 no_tick zero j st c at f l e = ((refl, tt), (refl, tt))
 no_tick (suc n) j st c at f l e = absurd (omega arith)
 
@@ -255,14 +255,14 @@ module _ (call call' : ℕ → Path → List Value → Act (Option Value)) (k : 
         few_locals (Left (Returned r) st) h = h
         few_locals (Left (Finished r) st) h = h
 
-        plainly : (o : Outcome (Option Value)) → plain (with_locals ls o) ≡ plain (with_locals ls (plain o))
+        plainly : (o : Outcome (Option Value)) → uncounted_outcome (with_locals ls o) ≡ uncounted_outcome (with_locals ls (uncounted_outcome o))
         plainly (Done r st) = refl
         plainly (Trapped t at w) = refl
         plainly (Left (Returned r) st) = refl
         plainly (Left (Finished r) st) = refl
 
-        by_plain : (o o' : Outcome (Option Value)) → plain o ≡ plain o' → plain (with_locals ls o) ≡ plain (with_locals ls o')
-        by_plain o o' e = plainly o ∙ ap (λ x. plain (with_locals ls x)) e ∙ sym (plainly o')
+        by_plain : (o o' : Outcome (Option Value)) → uncounted_outcome o ≡ uncounted_outcome o' → uncounted_outcome (with_locals ls o) ≡ uncounted_outcome (with_locals ls o')
+        by_plain o o' e = plainly o ∙ ap (λ x. uncounted_outcome (with_locals ls x)) e ∙ sym (plainly o')
 
     method_like : (m : Option Method) (p : Path) (given : List Value) (j : ℕ) → j ≤ k → Like j (run_method call n m p given) (run_method call' n' m p given)
     method_like None p given j l st c h = (refl, h)
@@ -285,49 +285,49 @@ module _ (call call' : ℕ → Path → List Value → Act (Option Value)) (k : 
 -- ---- calls
 
 module _ (methods : List Method) where
-  called_like : (n n' j : ℕ) → suc j ≤ n → suc j ≤ n' → (m : ℕ) (q : Path) (given : List Value) → Like j (called methods n m q given) (called methods n' m q given)
-  unfolding called
+  called_like : (n n' j : ℕ) → suc j ≤ n → suc j ≤ n' → (m : ℕ) (q : Path) (given : List Value) → Like j (call_act methods n m q given) (call_act methods n' m q given)
+  unfolding call_act
   called_like zero n' j l l' m q given = absurd (omega arith)
   called_like (suc n) zero j l l' m q given = absurd (omega arith)
   called_like (suc n) (suc n') j l l' m q given =
-      method_like (called methods n) (called methods n') j (λ m q given i e. called_like n n' i (omega arith) (omega arith) m q given) n n' (omega arith) (omega arith) (slice_get methods m) q given j (omega arith)
+      method_like (call_act methods n) (call_act methods n') j (λ m q given i e. called_like n n' i (omega arith) (omega arith) m q given) n n' (omega arith) (omega arith) (slice_get methods m) q given j (omega arith)
 
   -- a call, and its method's run with calls as deep as before
-  pub run_like : (n j : ℕ) → suc j ≤ n → (m : ℕ) (q : Path) (given : List Value) → Like j (called methods n m q given) (run_method (called methods n) n (slice_get methods m) q given)
-  unfolding called
+  pub run_like : (n j : ℕ) → suc j ≤ n → (m : ℕ) (q : Path) (given : List Value) → Like j (call_act methods n m q given) (run_method (call_act methods n) n (slice_get methods m) q given)
+  unfolding call_act
   run_like zero j l m q given = absurd (omega arith)
   run_like (suc n) j l m q given =
-      method_like (called methods n) (called methods (suc n)) j (λ m q given i e. called_like n (suc n) i (omega arith) (omega arith) m q given) n (suc n) (omega arith) (omega arith) (slice_get methods m) q given j (omega arith)
+      method_like (call_act methods n) (call_act methods (suc n)) j (λ m q given i e. called_like n (suc n) i (omega arith) (omega arith) m q given) n (suc n) (omega arith) (omega arith) (slice_get methods m) q given j (omega arith)
 
   -- what an act does twice is alike
   module _ (n : ℕ) where
-    pub calls : (m : ℕ) (q : Path) (given : List Value) (i : ℕ) → suc i ≤ n → Like i (called methods n m q given) (called methods n m q given)
+    pub calls : (m : ℕ) (q : Path) (given : List Value) (i : ℕ) → suc i ≤ n → Like i (call_act methods n m q given) (call_act methods n m q given)
     calls m q given i e = called_like n n i e e m q given
 
-    pub same_value : (p : Path) (t : Tree) (j : ℕ) → j ≤ n → Like j (value (called methods n) p t) (value (called methods n) p t)
-    same_value p t j l = value_like (called methods n) (called methods n) n calls p t j l
+    pub same_value : (p : Path) (t : Tree) (j : ℕ) → j ≤ n → Like j (value (call_act methods n) p t) (value (call_act methods n) p t)
+    same_value p t j l = value_like (call_act methods n) (call_act methods n) n calls p t j l
 
-    pub same_values : (p : Path) (ts : Trees) (j : ℕ) → j ≤ n → Like j (values (called methods n) p ts) (values (called methods n) p ts)
-    same_values p ts j l = values_like (called methods n) (called methods n) n calls p ts j l
+    pub same_values : (p : Path) (ts : Trees) (j : ℕ) → j ≤ n → Like j (values (call_act methods n) p ts) (values (call_act methods n) p ts)
+    same_values p ts j l = values_like (call_act methods n) (call_act methods n) n calls p ts j l
 
-    pub same_effect : (p : Path) (s : Step) (j : ℕ) → j ≤ n → Like j (effect (called methods n) n p s) (effect (called methods n) n p s)
-    same_effect p s j l = effect_like (called methods n) (called methods n) n calls p n n (omega arith) (omega arith) s j l
+    pub same_effect : (p : Path) (s : Step) (j : ℕ) → j ≤ n → Like j (effect (call_act methods n) n p s) (effect (call_act methods n) n p s)
+    same_effect p s j l = effect_like (call_act methods n) (call_act methods n) n calls p n n (omega arith) (omega arith) s j l
 
-    pub same_effects : (p : Path) (ss : Steps) (j : ℕ) → j ≤ n → Like j (effects (called methods n) n p ss) (effects (called methods n) n p ss)
-    same_effects p ss j l = effects_like (called methods n) (called methods n) n calls p n n (omega arith) (omega arith) ss j l
+    pub same_effects : (p : Path) (ss : Steps) (j : ℕ) → j ≤ n → Like j (effects (call_act methods n) n p ss) (effects (call_act methods n) n p ss)
+    same_effects p ss j l = effects_like (call_act methods n) (call_act methods n) n calls p n n (omega arith) (omega arith) ss j l
 
-    pub same_phases : (fs : List Phase) (last : Option Last) (p : Path) (j : ℕ) → j ≤ n → Like j (phases_run (called methods n) n fs last p) (phases_run (called methods n) n fs last p)
-    same_phases fs last p j l = phases_like (called methods n) (called methods n) n calls n n (omega arith) (omega arith) fs last p j l
+    pub same_phases : (fs : List Phase) (last : Option Last) (p : Path) (j : ℕ) → j ≤ n → Like j (phases_run (call_act methods n) n fs last p) (phases_run (call_act methods n) n fs last p)
+    same_phases fs last p j l = phases_like (call_act methods n) (call_act methods n) n calls n n (omega arith) (omega arith) fs last p j l
 
-    pub same_while : (p : Path) (test : Tree) (body : Steps) (at : Span) (j : ℕ) → j ≤ n → Like j (while_turns n (value (called methods n) p test) (effects (called methods n) n p body) at) (while_turns n (value (called methods n) p test) (effects (called methods n) n p body) at)
+    pub same_while : (p : Path) (test : Tree) (body : Steps) (at : Span) (j : ℕ) → j ≤ n → Like j (while_turns n (value (call_act methods n) p test) (effects (call_act methods n) n p body) at) (while_turns n (value (call_act methods n) p test) (effects (call_act methods n) n p body) at)
     same_while p test body at j l = while_like n n j l l _ _ _ _ at (λ i e. same_value p test i (omega arith)) (λ i e. same_effects p body i (omega arith))
 
-    pub same_for : (p : Path) (counter : ℕ) (body : Steps) (at : Span) (j : ℕ) → j ≤ n → Like j (while_turns n (for_test counter at) (for_body counter at (effects (called methods n) n p body)) at) (while_turns n (for_test counter at) (for_body counter at (effects (called methods n) n p body)) at)
-    same_for p counter body at j l = while_like n n j l l _ _ _ _ at (λ i e. test_like i counter at) (λ i e. for_like i counter at (effects (called methods n) n p body) (effects (called methods n) n p body) (same_effects p body i (omega arith)))
+    pub same_for : (p : Path) (counter : ℕ) (body : Steps) (at : Span) (j : ℕ) → j ≤ n → Like j (while_turns n (for_test counter at) (for_body counter at (effects (call_act methods n) n p body)) at) (while_turns n (for_test counter at) (for_body counter at (effects (call_act methods n) n p body)) at)
+    same_for p counter body at j l = while_like n n j l l _ _ _ _ at (λ i e. test_like i counter at) (λ i e. for_like i counter at (effects (call_act methods n) n p body) (effects (call_act methods n) n p body) (same_effects p body i (omega arith)))
 
     -- loops and their first turns
-    pub while_turn : (p : Path) (test : Tree) (body : Steps) (at : Span) (j : ℕ) → j ≤ n → Like j (while_turns n (value (called methods n) p test) (effects (called methods n) n p body) at) (value (called methods n) p test >>= (λ t. choose (is_true t) (tick at >> (effects (called methods n) n p body >> while_turns n (value (called methods n) p test) (effects (called methods n) n p body) at)) (give tt)))
+    pub while_turn : (p : Path) (test : Tree) (body : Steps) (at : Span) (j : ℕ) → j ≤ n → Like j (while_turns n (value (call_act methods n) p test) (effects (call_act methods n) n p body) at) (value (call_act methods n) p test >>= (λ t. choose (is_true t) (tick at >> (effects (call_act methods n) n p body >> while_turns n (value (call_act methods n) p test) (effects (call_act methods n) n p body) at)) (give tt)))
     while_turn p test body at j l = turns_like n j l _ _ at (λ i e. same_value p test i (omega arith)) (λ i e. same_effects p body i (omega arith))
 
-    pub for_turn : (p : Path) (counter : ℕ) (body : Steps) (at : Span) (j : ℕ) → j ≤ n → Like j (while_turns n (for_test counter at) (for_body counter at (effects (called methods n) n p body)) at) (for_test counter at >>= (λ t. choose (is_true t) (tick at >> (for_body counter at (effects (called methods n) n p body) >> while_turns n (for_test counter at) (for_body counter at (effects (called methods n) n p body)) at)) (give tt)))
-    for_turn p counter body at j l = turns_like n j l _ _ at (λ i e. test_like i counter at) (λ i e. for_like i counter at (effects (called methods n) n p body) (effects (called methods n) n p body) (same_effects p body i (omega arith)))
+    pub for_turn : (p : Path) (counter : ℕ) (body : Steps) (at : Span) (j : ℕ) → j ≤ n → Like j (while_turns n (for_test counter at) (for_body counter at (effects (call_act methods n) n p body)) at) (for_test counter at >>= (λ t. choose (is_true t) (tick at >> (for_body counter at (effects (call_act methods n) n p body) >> while_turns n (for_test counter at) (for_body counter at (effects (call_act methods n) n p body)) at)) (give tt)))
+    for_turn p counter body at j l = turns_like n j l _ _ at (λ i e. test_like i counter at) (λ i e. for_like i counter at (effects (call_act methods n) n p body) (effects (call_act methods n) n p body) (same_effects p body i (omega arith)))

@@ -11,7 +11,7 @@ use Rattle.wave_base.specs.Tree.{there}
 use Rattle.value_ops.specs.Kinds.{Answer}
 use Rattle.context_tree.specs.Contexts.{Contexts, with_field}
 use Rattle.resolved_service.specs.declared.service.Method.{Method}
-use Rattle.resolved_service.specs.Meaning.{State, Outcome, Done, Trapped, Left, Act, and_then, ◌>>=◌, give, answer, set_local, put_field, value, effect, effects, called}
+use Rattle.resolved_service.specs.Meaning.{State, Outcome, Done, Trapped, Left, Act, and_then, ◌>>=◌, give, answer, set_local, put_field, value, effect, effects, call_act}
 use Rattle.resolved_service.specs.Steps.{Step, Steps, step}
 use Rattle.resolved_service.specs.View.{Tree as Expression}
 use Rattle.resolved_service.specs.World.{World, nothing, read_field, set_field}
@@ -19,7 +19,7 @@ use Rattle.service_eval.specs.declared.code.Code.{Code}
 use Rattle.service_eval.specs.declared.machine.Machine.{Machine}
 use Rattle.service_eval.specs.declared.stop.Stop.{Stop}
 use Rattle.service_eval.specs.declared.stop.Stop.TheVariants as stop
-use Rattle.service_eval.specs.inner.Answers.{told}
+use Rattle.service_eval.specs.inner.Answers.{change_made}
 use Rattle.service_eval.specs.inner.Items.{Block}
 use Rattle.service_eval.specs.inner.Machines.{Mach, on_top, in_state, come_of, comes_to}
 use Rattle.service_eval.specs.inner.Ready.{Ready}
@@ -47,15 +47,15 @@ ready_state shape methods m st r s = record {
 -- the first of some statements
 module _ (methods : List Method) (m : Mach) (s : Step) (ss : Steps) where
   abbrev first : Outcome (Unit {0})
-  first = effect (called methods TICKS) TICKS m.path s m.state
+  first = effect (call_act methods TICKS) TICKS m.path s m.state
 
-  pub block_goes : (st : State) → effect (called methods TICKS) TICKS m.path s m.state ≡ Done tt st → comes_to methods (on_top (Block (step s ss)) m) ≡ comes_to methods (on_top (Block ss) (in_state st m))
-  block_goes st h = ap (λ o. come_of methods m.items m.path (and_then (and_then o (λ _. effects (called methods TICKS) TICKS m.path ss)) (λ _. give m.values))) h
+  pub block_goes : (st : State) → effect (call_act methods TICKS) TICKS m.path s m.state ≡ Done tt st → comes_to methods (on_top (Block (step s ss)) m) ≡ comes_to methods (on_top (Block ss) (in_state st m))
+  block_goes st h = ap (λ o. come_of methods m.items m.path (and_then (and_then o (λ _. effects (call_act methods TICKS) TICKS m.path ss)) (λ _. give m.values))) h
 
-  pub block_fails : (e : Stop) (w : World) → Traps (effect (called methods TICKS) TICKS m.path s m.state) e w → Fails (comes_to methods (on_top (Block (step s ss)) m)) e w
+  pub block_fails : (e : Stop) (w : World) → Traps (effect (call_act methods TICKS) TICKS m.path s m.state) e w → Fails (comes_to methods (on_top (Block (step s ss)) m)) e w
   block_fails e w h =
       fails_through methods m.items m.path _ e w
-      (traps_then (and_then first (λ _. effects (called methods TICKS) TICKS m.path ss)) (λ _. give m.values) e w (traps_then first (λ _. effects (called methods TICKS) TICKS m.path ss) e w h))
+      (traps_then (and_then first (λ _. effects (call_act methods TICKS) TICKS m.path ss)) (λ _. give m.values) e w (traps_then first (λ _. effects (call_act methods TICKS) TICKS m.path ss) e w h))
 
 second_fails : (o : Outcome Value) (second : Act Value) (f : Value → Value → Act (Unit {0})) (e : Stop) (w : World) → Traps (and_then o (λ _. second)) e w → Traps (and_then o (λ x. second >>= f x)) e w
 second_fails (Done x st) second f e w h = traps_then (second st) (f x) e w h
@@ -79,7 +79,7 @@ module _ (call : ℕ → Path → List Value → Act (Option Value)) (n : ℕ) (
     two_fails e w h = subst (λ o. Traps o e w) (sym is) (second_fails (value call p a st) (value call p b) f e w h)
 
 -- a statement that is done by a change is done at once
-pub told_once : (code : Code) (contexts contexts' : Contexts) (m m' : Machine) (s : Step) (change : Act (Unit {0})) (r : Result (Unit {0}) Stop) → effect (called code.methods.now TICKS) TICKS m.path s (mach code contexts m).state ≡ change (mach code contexts m).state → Does code contexts m change r contexts' m' → AtOnce code contexts m s (told r) contexts' m'
+pub told_once : (code : Code) (contexts contexts' : Contexts) (m m' : Machine) (s : Step) (change : Act (Unit {0})) (r : Result (Unit {0}) Stop) → effect (call_act code.methods.now TICKS) TICKS m.path s (mach code contexts m).state ≡ change (mach code contexts m).state → Does code contexts m change r contexts' m' → AtOnce code contexts m s (change_made r) contexts' m'
 told_once code contexts contexts' m m' s change (Ok u) is h = (is ∙ h.0, h.1, h.2, h.3)
 told_once code contexts contexts' m m' s change (Err e) is h = (subst (λ o. Traps o e (mach code contexts' m').state.world) (sym is) h.0, h.1)
 

@@ -12,7 +12,7 @@ use Rattle.service_eval.specs.declared.stop.Stop.{Stop}
 use Rattle.service_eval.specs.declared.stop.Stop.TheVariants as stop
 use Rattle.service_eval.specs.inner.Items.{Item, Eval, Evals, Apply, AndThen, OrElse, Invoke, Child, Block, Begin, Finish, Turns, Check, Counts, Again, Return, to_return}
 use Rattle.service_eval.specs.inner.Machines.{resume, come_of, own}
-use Rattle.service_eval.specs.inner.Traces.{uncounted, plain, Traps, Ends, Fails}
+use Rattle.service_eval.specs.inner.Traces.{uncounted_world, uncounted_outcome, Traps, Ends, Fails}
 
 pub assoc : {A B C : Type 0} (o : Outcome A) (f : A → Act B) (g : B → Act C) → and_then (and_then o f) g ≡ and_then o (λ a st. and_then (f a st) g)
 assoc (Done a st) f g = refl
@@ -35,23 +35,23 @@ traps_then o f (stop.OutOfMemory _) w h = tt
 traps_then o f (stop.Trapped t) w h = ap (λ o. and_then o f) h
 traps_then o f (stop.Ended r) w h = h
 
-pub fails_then : {A B : Type 0} (o : Outcome A) (f : A → Act B) (e : Stop) (w : World) → Fails (plain o) e w → Fails (plain (and_then o f)) e w
+pub fails_then : {A B : Type 0} (o : Outcome A) (f : A → Act B) (e : Stop) (w : World) → Fails (uncounted_outcome o) e w → Fails (uncounted_outcome (and_then o f)) e w
 fails_then o f (stop.OutOfMemory _) w h = tt
 fails_then (Done a st) f (stop.Trapped t) w h = absurd cc
 fails_then (Trapped k at v) f (stop.Trapped t) w h =
-    let a : k ≡ t.kind = cc in let b : at ≡ t.at = cc in let c : uncounted v ≡ uncounted w = cc in λ i. Trapped (a i) (b i) (c i)
+    let a : k ≡ t.kind = cc in let b : at ≡ t.at = cc in let c : uncounted_world v ≡ uncounted_world w = cc in λ i. Trapped (a i) (b i) (c i)
 fails_then (Left l st) f (stop.Trapped t) w h = absurd cc
-fails_then {A} (Done a st) f (stop.Ended r) w h = let is : ◌≡◌ {A = Outcome A} (plain (Done a st)) (Left h.why h.state) = h.is in absurd cc
-fails_then {A} (Trapped k at v) f (stop.Ended r) w h = let is : ◌≡◌ {A = Outcome A} (plain (Trapped k at v)) (Left h.why h.state) = h.is in absurd cc
+fails_then {A} (Done a st) f (stop.Ended r) w h = let is : ◌≡◌ {A = Outcome A} (uncounted_outcome (Done a st)) (Left h.why h.state) = h.is in absurd cc
+fails_then {A} (Trapped k at v) f (stop.Ended r) w h = let is : ◌≡◌ {A = Outcome A} (uncounted_outcome (Trapped k at v)) (Left h.why h.state) = h.is in absurd cc
 fails_then {A} (Left l st) f (stop.Ended r) w h =
-    let is : ◌≡◌ {A = Outcome A} (plain (Left l st)) (Left h.why h.state) = h.is in
+    let is : ◌≡◌ {A = Outcome A} (uncounted_outcome (Left l st)) (Left h.why h.state) = h.is in
     let a : l ≡ h.why = cc in
-    let b : record { locals = st.locals; world = uncounted st.world } ≡ h.state = cc in
+    let b : record { locals = st.locals; world = uncounted_world st.world } ≡ h.state = cc in
     record { why = h.why; state = h.state; is = λ i. Left (a i) (b i); replies = h.replies; leaves = h.leaves }
 
-pub traps_fail : {A : Type 0} (o : Outcome A) (e : Stop) (w : World) → Traps o e w → Fails (plain o) e w
+pub traps_fail : {A : Type 0} (o : Outcome A) (e : Stop) (w : World) → Traps o e w → Fails (uncounted_outcome o) e w
 traps_fail o (stop.OutOfMemory _) w h = tt
-traps_fail o (stop.Trapped t) w h = ap plain h
+traps_fail o (stop.Trapped t) w h = ap uncounted_outcome h
 traps_fail o (stop.Ended r) w h = absurd h
 
 -- a trap ends all
@@ -75,7 +75,7 @@ trap_through methods (Again a counter body ∷ items) p k at w = trap_through me
 
 pub fails_through : (methods : List Method) (items : List Item) (p : Path) (o : Outcome (List Value)) (e : Stop) (w : World) → Traps o e w → Fails (come_of methods items p o) e w
 fails_through methods items p o (stop.OutOfMemory _) w h = tt
-fails_through methods items p o (stop.Trapped t) w h = ap (come_of methods items p) h ∙ ap plain (trap_through methods items p t.kind t.at w)
+fails_through methods items p o (stop.Trapped t) w h = ap (come_of methods items p) h ∙ ap uncounted_outcome (trap_through methods items p t.kind t.at w)
 fails_through methods items p o (stop.Ended r) w h = absurd h
 
 -- a method that returns early goes on at its return
@@ -99,7 +99,7 @@ return_through methods (Again a counter body ∷ items) p r st = return_through 
 
 -- a finish ends all
 pub finish_through : (methods : List Method) (items : List Item) (p : Path) (r : Option Value) (st : State) → Ends (come_of methods items p (Left (Finished r) st)) r st.world
-finish_through methods [] p r st = record { why = Finished r; state = record { locals = st.locals; world = uncounted st.world }; is = refl; replies = refl; leaves = refl }
+finish_through methods [] p r st = record { why = Finished r; state = record { locals = st.locals; world = uncounted_world st.world }; is = refl; replies = refl; leaves = refl }
 finish_through methods (Return locals below up ∷ items) p r st = finish_through methods items _ r (record { locals = locals; world = st.world })
 finish_through methods (Eval t ∷ items) p r st = finish_through methods items p r st
 finish_through methods (Evals ts ∷ items) p r st = finish_through methods items p r st

@@ -6,7 +6,7 @@ use Rattle.wave_base.specs.declared.value.Value.{Value}
 use Rattle.wave_base.specs.Tree.{Tree}
 use Rattle.context_tree.specs.Contexts.{Contexts, tree_of as shown}
 use Rattle.resolved_service.specs.declared.service.Method.{Method}
-use Rattle.resolved_service.specs.Meaning.{Done, value, called}
+use Rattle.resolved_service.specs.Meaning.{Done, value, call_act}
 use Rattle.resolved_service.specs.View.{Tree as Expression}
 use Rattle.service_eval.specs.declared.code.Code.{Code}
 use Rattle.service_eval.specs.declared.machine.Machine.{Machine}
@@ -62,6 +62,6 @@ pub at_tree : (code : Code) (contexts : Contexts) (m m' : Machine) (r : Result (
 at_tree code contexts m m' r t u e f next = subst (λ t. Goes code contexts m (Eval t) r contexts m') (sym e) (f (subst (λ t. IsNext code contexts m (Eval t)) e next))
 
 -- an expression that has its value at once
-pub gives : (code : Code) (contexts : Contexts) (m m' : Machine) (r : Result (Unit {0}) Stop) (t : Expression) (v : Value) → value (called code.methods.now TICKS) m.path t (state_of (shown code.shape.now contexts) m) ≡ Done v (state_of (shown code.shape.now contexts) m) → OnOk r ((tree : Tree (List Value)) → mach_of tree m' ≡ with_value v (mach_of tree m)) → IfErr r (λ e. e ≡ stop.OutOfMemory the_refusal) → IsNext code contexts m (Eval t) → Goes code contexts m (Eval t) r contexts m'
+pub gives : (code : Code) (contexts : Contexts) (m m' : Machine) (r : Result (Unit {0}) Stop) (t : Expression) (v : Value) → value (call_act code.methods.now TICKS) m.path t (state_of (shown code.shape.now contexts) m) ≡ Done v (state_of (shown code.shape.now contexts) m) → OnOk r ((tree : Tree (List Value)) → mach_of tree m' ≡ with_value v (mach_of tree m)) → IfErr r (λ e. e ≡ stop.OutOfMemory the_refusal) → IsNext code contexts m (Eval t) → Goes code contexts m (Eval t) r contexts m'
 gives code contexts m m' r t v h ok err next =
     turned code contexts (Eval t) (with_value v) m m' r next (found_value code.methods.now (mach code contexts m) t v h) (ready_with code.shape.now code.methods.now (on_top (Eval t) (mach code contexts m)) (mach code contexts m).items (m.values.items ++ v ∷ []) next next.items.1) ok err (found_lighter code.methods.now (mach code contexts m) t v)

@@ -4,7 +4,7 @@ use Rattle.wave_base.specs.declared.limits.TheConstants.{TICKS}
 use Rattle.wave_base.specs.declared.span.Span.{Span}
 use Rattle.value_ops.specs.Kinds.{Answer}
 use Rattle.context_tree.specs.Contexts.{Contexts, tree_of as shown}
-use Rattle.resolved_service.specs.Meaning.{State, Trapped, with_world, called}
+use Rattle.resolved_service.specs.Meaning.{State, Trapped, with_world, call_act}
 use Rattle.resolved_service.specs.World.{World}
 use Rattle.service_eval.specs.declared.code.Code.{Code}
 use Rattle.service_eval.specs.declared.machine.Machine.{Machine}
@@ -25,7 +25,7 @@ refused a at st (stop.Ended r) w h = h
 refused a at st (stop.Trapped t) w h = ap (λ a. with_world a at st) h.0 ∙ (λ i. Trapped t.kind (sym h.1 i) (sym h.2 i))
 
 module _ (code : Code) (contexts : Contexts) (m m1 : Machine) (tr : Trace) (at : Span) (base : ℕ) (what : End) (a : Answer World) where
-  pub changed_turn : (r : Result (Unit {0}) Stop) → finish (called code.methods.now TICKS) TICKS m.path at (drop base m.values.items) what (mach code contexts m).state ≡ with_world a at (mach code contexts m).state → mach_of (shown code.shape.now contexts) m1 ≡ cut_to base (mach code contexts m) → Changes a at (mach code contexts m).state.world r (world_of (shown code.shape.now contexts) tr) → ((v : World) → a ≡ Ok v → Same (mach code contexts m).state.world v) → IsNext code contexts m (Finish at what base) → Goes code contexts m (Finish at what base) r contexts (record m1 { trace = tr })
+  pub changed_turn : (r : Result (Unit {0}) Stop) → finish (call_act code.methods.now TICKS) TICKS m.path at (drop base m.values.items) what (mach code contexts m).state ≡ with_world a at (mach code contexts m).state → mach_of (shown code.shape.now contexts) m1 ≡ cut_to base (mach code contexts m) → Changes a at (mach code contexts m).state.world r (world_of (shown code.shape.now contexts) tr) → ((v : World) → a ≡ Ok v → Same (mach code contexts m).state.world v) → IsNext code contexts m (Finish at what base) → Goes code contexts m (Finish at what base) r contexts (record m1 { trace = tr })
   changed_turn (Ok u) is cut h same next =
       let w = world_of (shown code.shape.now contexts) tr in
       did code contexts contexts (Finish at what base) (in_world w (cut_to base (mach code contexts m))) m (record m1 { trace = tr })

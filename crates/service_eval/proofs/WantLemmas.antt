@@ -12,7 +12,7 @@ use Rattle.value_ops.specs.Operators.{gives_of, apply_row}
 use Rattle.value_ops.proofs.LawLemmas.{row_gives_its_kind}
 use Rattle.context_tree.specs.Contexts.{Contexts, tree_of as shown}
 use Rattle.resolved_service.specs.declared.expr.Expr.{Expr}
-use Rattle.resolved_service.specs.Meaning.{Done, value, called}
+use Rattle.resolved_service.specs.Meaning.{Done, value, call_act}
 use Rattle.resolved_service.specs.View.{tree_of}
 use Rattle.resolved_service.specs.World.{nothing}
 use Rattle.service_eval.specs.declared.assignments.Assignment.TheVariants as assignment
@@ -23,7 +23,7 @@ use Rattle.service_eval.specs.declared.stop.Stop.TheVariants as stop
 use Rattle.service_eval.specs.declared.work.StatementEnd.TheVariants as ending
 use Rattle.service_eval.specs.declared.work.Variable.{Variable}
 use Rattle.service_eval.specs.declared.work.Variable.TheVariants as variable
-use Rattle.service_eval.specs.inner.Answers.{Gives, made, told}
+use Rattle.service_eval.specs.inner.Answers.{Gives, made_operand, change_made}
 use Rattle.service_eval.specs.inner.Changes.{step_in}
 use Rattle.service_eval.specs.inner.Items.{end_of}
 use Rattle.service_eval.specs.inner.Machines.{Mach, own, cut_to, state_of}
@@ -45,7 +45,7 @@ module _ (row : ℕ) (values : List Value) where
   for_given at (Err (stop.Trapped t)) f h = tt
   for_given at (Err (stop.Ended r)) f h = tt
 
-  pub for_made : {P : Type 0} (at : Span) (r : Result Value Stop) → (TakesMemory (gives_of row) → P) → Gives (apply_row row values) at r → WhereWanting (made r) P
+  pub for_made : {P : Type 0} (at : Span) (r : Result Value Stop) → (TakesMemory (gives_of row) → P) → Gives (apply_row row values) at r → WhereWanting (made_operand r) P
   for_made at (Ok v) f h = tt
   for_made at (Err (stop.OutOfMemory _)) f h = f (given (apply_row row values) refl h)
   for_made at (Err (stop.Trapped t)) f h = tt
@@ -73,7 +73,7 @@ wanting (Err (stop.Trapped t)) p = tt
 wanting (Err (stop.Ended r)) p = tt
 
 -- the same of a change that is told
-pub told_said : {P Q : Type 0} (r : Result (Unit {0}) Stop) → (P → Q) → WhereWanting r P → WhereWanting (told r) Q
+pub told_said : {P Q : Type 0} (r : Result (Unit {0}) Stop) → (P → Q) → WhereWanting r P → WhereWanting (change_made r) Q
 told_said (Ok a) f h = tt
 told_said (Err (stop.OutOfMemory _)) f h = f h
 told_said (Err (stop.Trapped t)) f h = tt
@@ -95,7 +95,7 @@ module _ (code : Code) (contexts : Contexts) (m : Machine) (at : Span) where
   put_wants (variable.Field f) k e (inl h) = inl h
   put_wants (variable.Field f) k e (inr h) = inr (inl h)
 
-  pub put_adds : (v : Variable) (k e : Bor Expr) (key : Value) → value (called code.methods.now TICKS) m.path (tree_of k.now) (state_of (shown code.shape.now contexts) m) ≡ Done key (state_of (shown code.shape.now contexts) m) → IsNewKey (value_of code contexts m v) key → MayWantAtOnce code contexts m (step_in at (assignment.Put v k e))
+  pub put_adds : (v : Variable) (k e : Bor Expr) (key : Value) → value (call_act code.methods.now TICKS) m.path (tree_of k.now) (state_of (shown code.shape.now contexts) m) ≡ Done key (state_of (shown code.shape.now contexts) m) → IsNewKey (value_of code contexts m v) key → MayWantAtOnce code contexts m (step_in at (assignment.Put v k e))
   put_adds (variable.Local slot) k e key is h = inr (inr (subst (FindsNewKey (value_of code contexts m (variable.Local slot))) (sym is) h))
   put_adds (variable.Field f) k e key is h = inr (inr (subst (FindsNewKey (value_of code contexts m (variable.Field f))) (sym is) h))
 

@@ -7,7 +7,7 @@ use Rattle.wave_base.specs.declared.trap.TrapKind.{TrapKind}
 use Rattle.wave_base.specs.declared.trap.TrapKind.TheVariants.{Sends, Spawns, Generation, Reach}
 use Rattle.wave_base.specs.declared.value.Value.{Value}
 use Rattle.value_ops.specs.Kinds.{Answer}
-use Rattle.resolved_service.specs.World.{World, has, changed, with_entered, entering, sending, spawning}
+use Rattle.resolved_service.specs.World.{World, has, after_change, with_entered, entering, sending, spawning}
 use Rattle.service_eval.specs.declared.stop.Stop.{Stop}
 use Rattle.service_eval.specs.declared.stop.Stop.TheVariants.{Trapped}
 use Rattle.service_eval.specs.inner.Traces.{Changes, Enters}
@@ -54,7 +54,7 @@ module _ (event : ℕ) (args : List Value) (w : World) where
   spawns_one_more g h = rw (equal_not w.generation 4 g, below_is (length w.created) 4 h) refl
 
 module _ (q : Path) (w : World) where
-  pub enters_again : has w.held q ≡ true → entering q w ≡ Ok (changed w)
+  pub enters_again : has w.held q ≡ true → entering q w ≡ Ok (after_change w)
   unfolding entering
   enters_again h = rw h refl
 
@@ -62,6 +62,6 @@ module _ (q : Path) (w : World) where
   unfolding entering
   enters_no_more h l = rw (h, below_not (length w.entered) 256 l) refl
 
-  pub enters_new : has w.held q ≡ false → length w.entered < 256 → entering q w ≡ Ok (changed (with_entered q w))
+  pub enters_new : has w.held q ≡ false → length w.entered < 256 → entering q w ≡ Ok (after_change (with_entered q w))
   unfolding entering
   enters_new h l = rw (h, below_is (length w.entered) 256 l) refl

@@ -11,7 +11,7 @@ ghost use Rattle.wave_base.specs.Shapes.{class_of};
 
 use crate::assignments::at_once;
 use crate::code::Code;
-use crate::eval::found;
+use crate::eval::found_value;
 use crate::machine::Machine;
 use crate::operand::is_true;
 use crate::parts::first_of;
@@ -66,13 +66,13 @@ fn one_ahead<'s>(
         Err(e) => return Err(e),
     }
     match first_of(others) {
-        None => chosen(code, contexts, m, first),
+        None => chosen_block(code, contexts, m, first),
         Some(_) => Ok(None),
     }
 }
 
 // The block that an `if` goes on with, where its test meets no call. None of another statement.
-fn chosen<'c>(
+fn chosen_block<'c>(
     code: Code<'_>,
     contexts: &Tree,
     m: &Machine<'_>,
@@ -81,7 +81,7 @@ fn chosen<'c>(
     ensures { Chooses code.entry contexts.now m.now (step_of stmt.now) result }
 {
     match &stmt.action {
-        Action::If(test, body, other) => match found(code, contexts, m, test) {
+        Action::If(test, body, other) => match found_value(code, contexts, m, test) {
             Ok(Some(value)) => {
                 if is_true(&value) {
                     Ok(Some(body.as_slice()))

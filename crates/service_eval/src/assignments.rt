@@ -2,11 +2,11 @@
 
 ghost use Rattle.std.specs.Prelude.{◌≡◌, ◌⊎◌, IsNone, IfSome};
 ghost use Rattle.context_tree.specs.Contexts.{tree_of as shown};
-ghost use Rattle.resolved_service.specs.Meaning.{value, called};
+ghost use Rattle.resolved_service.specs.Meaning.{value, call_act};
 ghost use Rattle.resolved_service.specs.Steps.{step_of};
 ghost use Rattle.resolved_service.specs.View.{tree_of};
 ghost use Rattle.service_eval.specs.declared.assignments.Assignment.TheVariants as assignment;
-ghost use Rattle.service_eval.specs.inner.Answers.{told, Finds, FindsTwo};
+ghost use Rattle.service_eval.specs.inner.Answers.{change_made, Finds, FindsTwo};
 ghost use Rattle.service_eval.specs.inner.Wants.{WhereWanting, MayWantToFind, MayWantAtOnce};
 ghost use Rattle.service_eval.specs.inner.Changes.{step_in, IsOther};
 ghost use Rattle.service_eval.specs.inner.Items as i;
@@ -18,7 +18,7 @@ ghost use Rattle.wave_base.specs.declared.limits.TheConstants.{TICKS};
 use crate::changes::{change, set_variable};
 use crate::code::Code;
 use crate::edits::Edit;
-use crate::eval::found;
+use crate::eval::found_value;
 use crate::look::View;
 use crate::machine::Machine;
 use crate::plain::number;
@@ -94,8 +94,8 @@ fn set(
     ensures does { AtOnce code.entry contexts.old m.old (step_in at (assignment.Set variable e.entry)) result contexts.new m.new }
     ensures memory { WhereWanting result (MayWantAtOnce code.entry contexts.old m.old (step_in at (assignment.Set variable e.entry))) }
 {
-    match found(code, contexts, m, e) {
-        Ok(Some(value)) => told(set_variable(code, contexts, m, at, variable, value)),
+    match found_value(code, contexts, m, e) {
+        Ok(Some(value)) => change_made(set_variable(code, contexts, m, at, variable, value)),
         Ok(None) => Ok(false),
         Err(e) => Err(e),
     }
@@ -115,7 +115,7 @@ fn put(
     ensures memory { WhereWanting result (MayWantAtOnce code.entry contexts.old m.old (step_in at (assignment.Put variable pair.entry.0 pair.entry.1))) }
 {
     match found_two(code, contexts, m, pair.0, pair.1) {
-        Ok(Some((key, value))) => told(change(
+        Ok(Some((key, value))) => change_made(change(
             code,
             contexts,
             m,
@@ -142,7 +142,7 @@ fn cut(
     ensures memory { WhereWanting result (MayWantAtOnce code.entry contexts.old m.old (step_in at (assignment.Cut variable key.entry))) }
 {
     match found_key(code, contexts, m, key) {
-        Ok(Some(key)) => told(change(code, contexts, m, at, variable, &mut Edit::Cut(key))),
+        Ok(Some(key)) => change_made(change(code, contexts, m, at, variable, &mut Edit::Cut(key))),
         Ok(None) => Ok(false),
         Err(e) => Err(e),
     }
@@ -156,13 +156,13 @@ fn found_key(
     m: &Machine<'_>,
     key: &Expr,
 ) -> Result<Option<Value>, Stop>
-    ensures finds { Finds (value (called code.entry.methods.now TICKS) m.now.path (tree_of key.now) (state_of (shown code.entry.shape.now contexts.now) m.now)) (state_of (shown code.entry.shape.now contexts.now) m.now) result }
+    ensures finds { Finds (value (call_act code.entry.methods.now TICKS) m.now.path (tree_of key.now) (state_of (shown code.entry.shape.now contexts.now) m.now)) (state_of (shown code.entry.shape.now contexts.now) m.now) result }
     ensures memory { WhereWanting result (MayWantToFind code.entry contexts.now m.now (tree_of key.now)) }
 {
     let view = View { code, contexts, m };
     match number(&view, key) {
         Some(n) => Ok(Some(Value::Int(n))),
-        None => found(code, contexts, m, key),
+        None => found_value(code, contexts, m, key),
     }
 }
 
@@ -175,7 +175,7 @@ fn found_two(
     a: &Expr,
     b: &Expr,
 ) -> Result<Option<(Value, Value)>, Stop>
-    ensures finds { FindsTwo (value (called code.entry.methods.now TICKS) m.now.path (tree_of a.now) (state_of (shown code.entry.shape.now contexts.now) m.now)) (value (called code.entry.methods.now TICKS) m.now.path (tree_of b.now)) (state_of (shown code.entry.shape.now contexts.now) m.now) result }
+    ensures finds { FindsTwo (value (call_act code.entry.methods.now TICKS) m.now.path (tree_of a.now) (state_of (shown code.entry.shape.now contexts.now) m.now)) (value (call_act code.entry.methods.now TICKS) m.now.path (tree_of b.now)) (state_of (shown code.entry.shape.now contexts.now) m.now) result }
     ensures memory { WhereWanting result (MayWantToFind code.entry contexts.now m.now (tree_of a.now) ⊎ MayWantToFind code.entry contexts.now m.now (tree_of b.now)) }
 {
     let view = View { code, contexts, m };
@@ -197,11 +197,11 @@ fn found_any_two(
     a: &Expr,
     b: &Expr,
 ) -> Result<Option<(Value, Value)>, Stop>
-    ensures finds { FindsTwo (value (called code.entry.methods.now TICKS) m.now.path (tree_of a.now) (state_of (shown code.entry.shape.now contexts.now) m.now)) (value (called code.entry.methods.now TICKS) m.now.path (tree_of b.now)) (state_of (shown code.entry.shape.now contexts.now) m.now) result }
+    ensures finds { FindsTwo (value (call_act code.entry.methods.now TICKS) m.now.path (tree_of a.now) (state_of (shown code.entry.shape.now contexts.now) m.now)) (value (call_act code.entry.methods.now TICKS) m.now.path (tree_of b.now)) (state_of (shown code.entry.shape.now contexts.now) m.now) result }
     ensures memory { WhereWanting result (MayWantToFind code.entry contexts.now m.now (tree_of a.now) ⊎ MayWantToFind code.entry contexts.now m.now (tree_of b.now)) }
 {
-    match found(code, contexts, m, a) {
-        Ok(Some(first)) => match found(code, contexts, m, b) {
+    match found_value(code, contexts, m, a) {
+        Ok(Some(first)) => match found_value(code, contexts, m, b) {
             Ok(Some(second)) => Ok(Some((first, second))),
             Ok(None) => Ok(None),
             Err(e) => Err(e),
@@ -213,8 +213,8 @@ fn found_any_two(
 
 // That a change was made, or why it wasn't.
 #[inline(always)]
-fn told(done: Result<(), Stop>) -> Result<bool, Stop>
-    ensures { result ≡ told done }
+fn change_made(done: Result<(), Stop>) -> Result<bool, Stop>
+    ensures { result ≡ change_made done }
 {
     match done {
         Ok(()) => Ok(true),

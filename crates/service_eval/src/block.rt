@@ -13,7 +13,7 @@ use crate::ahead::{as_far, else_of};
 use crate::assignments::{assignment_in, begin_assignment};
 use crate::calls::give_back;
 use crate::code::Code;
-use crate::eval::found;
+use crate::eval::found_value;
 use crate::finish::finish;
 use crate::machine::Machine;
 use crate::parts::first_of;
@@ -151,7 +151,7 @@ fn begin_one<'s>(
     ensures { GoOn code.entry contexts.old m.old (i.Eval (tree_of e.now) ∷ i.Finish at (end_of ending.entry) (length m.old.values.items) ∷ []) result contexts.new m.new }
 {
     let base = m.height();
-    match found(code, contexts, m, e) {
+    match found_value(code, contexts, m, e) {
         Ok(Some(value)) => match m.give(value) {
             Ok(()) => finish(code, contexts, m, at, ending, base),
             Err(e) => Err(e),

@@ -4,7 +4,7 @@ ghost use Rattle.std.specs.Prelude.{◌≡◌, ◌∷◌, [], Err, get_or};
 ghost use Rattle.resolved_service.specs.Meaning.{row_put, row_cut};
 ghost use Rattle.service_eval.specs.declared.stop.Stop.{Stop};
 ghost use Rattle.service_eval.specs.inner.Turns.{Alters};
-ghost use Rattle.service_eval.specs.inner.Changes.{edited, Revises};
+ghost use Rattle.service_eval.specs.inner.Changes.{edited_value, Revises};
 ghost use Rattle.service_eval.specs.inner.Wants.{WhereWanting, IsNewKey, PutsNewKey};
 ghost use Rattle.resolved_service.specs.World.{nothing};
 ghost use Rattle.value_ops.specs.Operators.{apply_row};
@@ -44,7 +44,7 @@ impl Edit {
     // Changes a value.
     #[inline(always)]
     fn apply(&mut self, value: &mut Value, at: Span) -> Result<(), Stop>
-        ensures alters { Alters (edited self.old value.old) at value.old result value.new }
+        ensures alters { Alters (edited_value self.old value.old) at value.old result value.new }
         ensures memory { WhereWanting result (PutsNewKey self.old value.old) }
     {
         match self {

@@ -2,7 +2,7 @@
 
 ghost use Rattle.std.specs.Prelude.{◌≡◌, ◌≤◌, ◌⊎◌, true, false, map, length, OnOk, IfOk, IfErr};
 ghost use Rattle.context_tree.specs.Contexts.{tree_of as shown};
-ghost use Rattle.resolved_service.specs.Meaning.{value, called};
+ghost use Rattle.resolved_service.specs.Meaning.{value, call_act};
 ghost use Rattle.service_eval.specs.inner.Answers.{Finds};
 ghost use Rattle.service_eval.specs.declared.stop.Stop.{Stop};
 ghost use Rattle.service_eval.specs.inner.Machines.{mach_of, state_of, with_value, own};
@@ -45,16 +45,20 @@ pub fn eval<'s>(
     match &e.node {
         Node::Const(value) => give(m, value.copy(code.alloc)),
         Node::Local(slot) => {
-            let value = item(m.locals.as_slice(), *slot as usize).owned(code.alloc);
+            let value = item(m.locals.as_slice(), *slot as usize).into_value(code.alloc);
             give(m, value)
         }
         Node::Field(f) => {
-            let value = field(code.shape, contexts, m.near, &m.path, *f as usize).owned(code.alloc);
+            let value = field(code.shape, contexts, m.near, &m.path, *f as usize).into_value(
+                code.alloc,
+            );
             give(m, value)
         }
         Node::Above(level, f) => {
             let path = above(&m.path, *level as usize);
-            let value = field(code.shape, contexts, m.near, &path, *f as usize).owned(code.alloc);
+            let value = field(code.shape, contexts, m.near, &path, *f as usize).into_value(
+                code.alloc,
+            );
             give(m, value)
         }
         Node::Op(row, args) => operate(code, contexts, m, e.at, *row, args.as_slice()),
@@ -101,7 +105,7 @@ fn operate<'s>(
     requires { IsNext code contexts.now m.old (i.Eval (Op at row (trees_of (map tree_of args.now)))) }
     ensures { Goes code.entry contexts.now m.old (i.Eval (Op at row (trees_of (map tree_of args.now)))) result contexts.now m.new }
 {
-    match operated(code, contexts, m, at, row, args) {
+    match operator_value(code, contexts, m, at, row, args) {
         Ok(Some(value)) => m.give(value),
         Ok(None) => {
             let base = m.height();
@@ -113,31 +117,31 @@ fn operate<'s>(
 
 /// The value of an expression, where no call is met. Nothing has changed then.
 #[inline(always)]
-pub fn found(
+pub fn found_value(
     code: Code<'_>,
     contexts: &Tree,
     m: &Machine<'_>,
     e: &Expr,
 ) -> Result<Option<Value>, Stop>
-    ensures finds { Finds (value (called code.entry.methods.now TICKS) m.now.path (tree_of e.now) (state_of (shown code.entry.shape.now contexts.now) m.now)) (state_of (shown code.entry.shape.now contexts.now) m.now) result }
+    ensures finds { Finds (value (call_act code.entry.methods.now TICKS) m.now.path (tree_of e.now) (state_of (shown code.entry.shape.now contexts.now) m.now)) (state_of (shown code.entry.shape.now contexts.now) m.now) result }
     ensures memory { WhereWanting result (MayWantToFind code.entry contexts.now m.now (tree_of e.now)) }
 {
     let view = View { code, contexts, m };
     match plain(&view, e) {
         Some(value) => Ok(Some(value)),
-        None => looked(view, e),
+        None => looked_value(view, e),
     }
 }
 
 // The same, for whatever value.
 #[inline(never)]
-fn looked(view: View<'_, '_>, e: &Expr) -> Result<Option<Value>, Stop>
-    ensures finds { Finds (value (called view.entry.code.methods.now TICKS) view.entry.m.now.path (tree_of e.now) (state_of (shown view.entry.code.shape.now view.entry.contexts.now) view.entry.m.now)) (state_of (shown view.entry.code.shape.now view.entry.contexts.now) view.entry.m.now) result }
+fn looked_value(view: View<'_, '_>, e: &Expr) -> Result<Option<Value>, Stop>
+    ensures finds { Finds (value (call_act view.entry.code.methods.now TICKS) view.entry.m.now.path (tree_of e.now) (state_of (shown view.entry.code.shape.now view.entry.contexts.now) view.entry.m.now)) (state_of (shown view.entry.code.shape.now view.entry.contexts.now) view.entry.m.now) result }
     ensures memory { WhereWanting result (MayWantToFind view.entry.code view.entry.contexts.now view.entry.m.now (tree_of e.now)) }
 {
     let alloc = view.code.alloc;
     match look(view, e) {
-        Ok(Some(operand)) => match operand.owned(alloc) {
+        Ok(Some(operand)) => match operand.into_value(alloc) {
             Ok(value) => Ok(Some(value)),
             Err(refused) => Err(Stop::OutOfMemory(refused)),
         },
@@ -147,7 +151,7 @@ fn looked(view: View<'_, '_>, e: &Expr) -> Result<Option<Value>, Stop>
 }
 
 // The value of an operator, where no call is met.
-fn operated(
+fn operator_value(
     code: Code<'_>,
     contexts: &Tree,
     m: &Machine<'_>,
@@ -155,11 +159,11 @@ fn operated(
     row: u16,
     args: &[Expr],
 ) -> Result<Option<Value>, Stop>
-    ensures finds { Finds (value (called code.entry.methods.now TICKS) m.now.path (Op at row (trees_of (map tree_of args.now))) (state_of (shown code.entry.shape.now contexts.now) m.now)) (state_of (shown code.entry.shape.now contexts.now) m.now) result }
+    ensures finds { Finds (value (call_act code.entry.methods.now TICKS) m.now.path (Op at row (trees_of (map tree_of args.now))) (state_of (shown code.entry.shape.now contexts.now) m.now)) (state_of (shown code.entry.shape.now contexts.now) m.now) result }
     ensures memory { WhereWanting result (MayWantToFind code.entry contexts.now m.now (Op at row (trees_of (map tree_of args.now)))) }
 {
     match look_row(View { code, contexts, m }, row, args, at) {
-        Ok(Some(operand)) => match operand.owned(code.alloc) {
+        Ok(Some(operand)) => match operand.into_value(code.alloc) {
             Ok(value) => Ok(Some(value)),
             Err(refused) => Err(Stop::OutOfMemory(refused)),
         },

@@ -3,13 +3,13 @@
 ghost use Rattle.std.specs.Prelude.{◌≡◌, ◌≤◌, [], slice_get, IsSome, IfOk, OnOk, OnErr, All};
 ghost use Rattle.context_tree.specs.Contexts.{tree_of as shown};
 ghost use Rattle.resolved_service.specs.Fits.{FitsMethod, FitsService, FitsEvent, FitsPhases, FitsLast, FitsSteps, FitsTree, IsChildClass};
-ghost use Rattle.resolved_service.specs.Jobs.{call_meaning, meant_by, first_world, replied};
-ghost use Rattle.resolved_service.specs.Meaning.{called, effects, value, last_value, phases_run, event_run, with_blanks};
+ghost use Rattle.resolved_service.specs.Jobs.{call_meaning, meant_by, first_world, outcome_of_reply};
+ghost use Rattle.resolved_service.specs.Meaning.{call_act, effects, value, last_value, phases_run, event_run, with_blanks};
 ghost use Rattle.resolved_service.specs.Steps.{steps_in};
 ghost use Rattle.resolved_service.specs.View.{tree_of};
 ghost use Rattle.resolved_service.specs.World.{child, key_of};
 ghost use Rattle.service_eval.specs.Events.{Means};
-ghost use Rattle.service_eval.specs.inner.Parts.{Rests, Comes, performed, went_down};
+ghost use Rattle.service_eval.specs.inner.Parts.{Rests, Comes, event_act, went_down};
 ghost use Rattle.service_eval.specs.inner.Machines.{mach_of, state_of};
 ghost use Rattle.service_eval.specs.Worlds.{Holds};
 ghost use Rattle.wave_base.specs.declared.limits.TheConstants.{GENERATION, TICKS};
@@ -102,16 +102,16 @@ fn run_as<'s>(
         Err(e) => return Err(e),
     };
     match perform(code, contexts, &mut m, event) {
-        Ok(reply) => Ok(ended(m, reply)),
-        Err(Stop::Trapped(trap)) => Ok(stopped(code.alloc, m, trap)),
+        Ok(reply) => Ok(event_end(m, reply)),
+        Err(Stop::Trapped(trap)) => Ok(stopped_run(code.alloc, m, trap)),
         Err(Stop::OutOfMemory(refused)) => Err(refused),
-        Err(Stop::Ended(reply)) => Ok(ended(m, reply)),
+        Err(Stop::Ended(reply)) => Ok(event_end(m, reply)),
     }
 }
 
 // An event that came to its end.
-fn ended(m: Machine<'_>, reply: Option<Value>) -> EventRan
-    ensures result { result.result ≡ record { outcome = replied reply; messages = m.entry.trace.messages.items; created = m.entry.trace.created.items } }
+fn event_end(m: Machine<'_>, reply: Option<Value>) -> EventRan
+    ensures result { result.result ≡ record { outcome = outcome_of_reply reply; messages = m.entry.trace.messages.items; created = m.entry.trace.created.items } }
     ensures entered { result.entered ≡ m.entry.trace.entered.items }
 {
     let Machine {
@@ -132,7 +132,7 @@ fn ended(m: Machine<'_>, reply: Option<Value>) -> EventRan
     } = trace;
     EventRan {
         result: EventResult {
-            outcome: replied(reply),
+            outcome: outcome_of_reply(reply),
             messages: Seq::from_vec(messages),
             created: Seq::from_vec(created),
         },
@@ -141,7 +141,7 @@ fn ended(m: Machine<'_>, reply: Option<Value>) -> EventRan
 }
 
 // An event that trapped: what it sent and created is dropped.
-fn stopped(alloc: Global, m: Machine<'_>, trap: Trap) -> EventRan
+fn stopped_run(alloc: Global, m: Machine<'_>, trap: Trap) -> EventRan
     ensures result { result.result ≡ record { outcome = Outcome.Trapped trap; messages = []; created = [] } }
     ensures entered { result.entered ≡ m.entry.trace.entered.items }
 {
@@ -159,8 +159,8 @@ fn stopped(alloc: Global, m: Machine<'_>, trap: Trap) -> EventRan
     }
 }
 
-fn replied(reply: Option<Value>) -> Outcome
-    ensures { result ≡ replied reply }
+fn outcome_of_reply(reply: Option<Value>) -> Outcome
+    ensures { result ≡ outcome_of_reply reply }
 {
     match reply {
         Some(value) => Outcome::Reply(value),
@@ -206,7 +206,7 @@ fn perform<'s>(
     requires fits { FitsEvent code.shape.now code.methods.now event.now }
     requires rests { Rests code contexts.old m.old }
     requires root { m.old.path ≡ [] }
-    ensures comes { Comes (performed (called code.entry.methods.now TICKS) TICKS event.now (state_of (shown code.entry.shape.now contexts.old) m.old)) result (state_of (shown code.entry.shape.now contexts.new) m.new) }
+    ensures comes { Comes (event_act (call_act code.entry.methods.now TICKS) TICKS event.now (state_of (shown code.entry.shape.now contexts.old) m.old)) result (state_of (shown code.entry.shape.now contexts.new) m.new) }
     ensures rests { OnOk result (Rests code.entry contexts.new m.new) }
     ensures holds { Holds code.entry.shape.now (shown code.entry.shape.now contexts.new) }
 {
@@ -228,7 +228,7 @@ fn phases_from<'s>(
     requires methods { All (FitsMethod code.shape.now code.methods.now) code.methods.now }
     requires fits { FitsPhases code.shape.now code.methods.now (class_of m.old.path) phases.now last.now }
     requires rests { Rests code contexts.old m.old }
-    ensures comes { Comes (phases_run (called code.entry.methods.now TICKS) TICKS phases.now last.now m.old.path (state_of (shown code.entry.shape.now contexts.old) m.old)) result (state_of (shown code.entry.shape.now contexts.new) m.new) }
+    ensures comes { Comes (phases_run (call_act code.entry.methods.now TICKS) TICKS phases.now last.now m.old.path (state_of (shown code.entry.shape.now contexts.old) m.old)) result (state_of (shown code.entry.shape.now contexts.new) m.new) }
     ensures rests { OnOk result (Rests code.entry contexts.new m.new) }
     ensures holds { Holds code.entry.shape.now (shown code.entry.shape.now contexts.new) }
 {
@@ -263,7 +263,7 @@ fn part<'s>(
     requires methods { All (FitsMethod code.shape.now code.methods.now) code.methods.now }
     requires fits { FitsSteps code.shape.now code.methods.now (class_of m.old.path) (steps_in stmts.now) }
     requires rests { Rests code contexts.old m.old }
-    ensures comes { Comes (effects (called code.entry.methods.now TICKS) TICKS m.old.path (steps_in stmts.now) (state_of (shown code.entry.shape.now contexts.old) m.old)) result (state_of (shown code.entry.shape.now contexts.new) m.new) }
+    ensures comes { Comes (effects (call_act code.entry.methods.now TICKS) TICKS m.old.path (steps_in stmts.now) (state_of (shown code.entry.shape.now contexts.old) m.old)) result (state_of (shown code.entry.shape.now contexts.new) m.new) }
     ensures rests { OnOk result (Rests code.entry contexts.new m.new) }
     ensures place { OnOk result (m.new.path ≡ m.old.path) }
     ensures holds { Holds code.entry.shape.now (shown code.entry.shape.now contexts.new) }
@@ -285,7 +285,7 @@ fn value_of<'s>(
     requires methods { All (FitsMethod code.shape.now code.methods.now) code.methods.now }
     requires fits { FitsTree code.shape.now code.methods.now (class_of m.old.path) (tree_of e.now) }
     requires rests { Rests code contexts.old m.old }
-    ensures comes { Comes (value (called code.entry.methods.now TICKS) m.old.path (tree_of e.now) (state_of (shown code.entry.shape.now contexts.old) m.old)) result (state_of (shown code.entry.shape.now contexts.new) m.new) }
+    ensures comes { Comes (value (call_act code.entry.methods.now TICKS) m.old.path (tree_of e.now) (state_of (shown code.entry.shape.now contexts.old) m.old)) result (state_of (shown code.entry.shape.now contexts.new) m.new) }
     ensures rests { OnOk result (Rests code.entry contexts.new m.new) }
     ensures place { OnOk result (m.new.path ≡ m.old.path) }
     ensures holds { Holds code.entry.shape.now (shown code.entry.shape.now contexts.new) }
@@ -351,7 +351,7 @@ fn reply<'s>(
     requires methods { All (FitsMethod code.shape.now code.methods.now) code.methods.now }
     requires fits { FitsLast code.shape.now code.methods.now (class_of m.old.path) last.now }
     requires rests { Rests code contexts.old m.old }
-    ensures comes { Comes (last_value (called code.entry.methods.now TICKS) TICKS m.old.path last.now (state_of (shown code.entry.shape.now contexts.old) m.old)) result (state_of (shown code.entry.shape.now contexts.new) m.new) }
+    ensures comes { Comes (last_value (call_act code.entry.methods.now TICKS) TICKS m.old.path last.now (state_of (shown code.entry.shape.now contexts.old) m.old)) result (state_of (shown code.entry.shape.now contexts.new) m.new) }
     ensures rests { OnOk result (Rests code.entry contexts.new m.new) }
     ensures holds { Holds code.entry.shape.now (shown code.entry.shape.now contexts.new) }
 {

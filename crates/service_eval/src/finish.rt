@@ -14,7 +14,7 @@ use crate::code::Code;
 use crate::edits::Edit;
 use crate::machine::Machine;
 use crate::stop::Stop;
-use crate::trace::trapped;
+use crate::trace::trap_at;
 use crate::work::{Branches, StatementEnd, Variable, Work};
 use context_tree::Tree;
 use wave_base::{Span, TrapKind, Txt};
@@ -135,7 +135,7 @@ fn demand<'s>(
         m.cut(base);
         Ok(())
     } else {
-        trapped(TrapKind::Require, at)
+        trap_at(TrapKind::Require, at)
     }
 }
 

@@ -169,7 +169,7 @@ pub fn flag_in(given: Result<Value, TrapKind>) -> Option<bool>
 
 /// The value that an operator gave, if it did.
 #[inline(always)]
-pub fn given(answer: Result<Value, Stop>) -> Option<Value>
+pub fn given_value(answer: Result<Value, Stop>) -> Option<Value>
     ensures { IfSome result (λ v. answer ≡ Ok v) }
 {
     match answer {
@@ -180,7 +180,7 @@ pub fn given(answer: Result<Value, Stop>) -> Option<Value>
 
 /// The same of an answer that has no place.
 #[inline(always)]
-pub fn answered(answer: Result<Value, OpError>) -> Option<Value>
+pub fn answered_value(answer: Result<Value, OpError>) -> Option<Value>
     ensures { IfSome result (λ v. answer ≡ Ok v) }
 {
     match answer {

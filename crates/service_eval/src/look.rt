@@ -2,7 +2,7 @@
 
 ghost use Rattle.std.specs.Prelude.{◌≡◌, map, take};
 ghost use Rattle.resolved_service.specs.View.{Op, And, Or, tree, no_trees, tree_of, trees_of};
-ghost use Rattle.service_eval.specs.inner.Answers.{made};
+ghost use Rattle.service_eval.specs.inner.Answers.{made_operand};
 ghost use Rattle.service_eval.specs.inner.Turns.{Sees};
 ghost use Rattle.service_eval.specs.inner.Wants.{WhereWanting, MayWant};
 
@@ -108,7 +108,7 @@ fn look_one<'v, 's>(
     match look(view, a) {
         Ok(Some(a)) => {
             let first = a.value();
-            made(apply_one(view.code.alloc, row as usize, first, at))
+            made_operand(apply_one(view.code.alloc, row as usize, first, at))
         }
         Ok(None) => Ok(None),
         Err(e) => Err(e),
@@ -131,7 +131,7 @@ fn look_two<'v, 's>(
             Ok(Some(b)) => {
                 let first = a.value();
                 let second = b.value();
-                made(apply_two(view.code.alloc, row as usize, first, second, at))
+                made_operand(apply_two(view.code.alloc, row as usize, first, second, at))
             }
             Ok(None) => Ok(None),
             Err(e) => Err(e),
@@ -168,7 +168,7 @@ fn look_three<'v, 's>(
                         third,
                         at,
                     );
-                    made(given)
+                    made_operand(given)
                 }
                 Ok(None) => Ok(None),
                 Err(e) => Err(e),
@@ -228,8 +228,8 @@ fn look_or<'v, 's>(
 }
 
 // What an operator gives, as an operand of its own.
-fn made<'v>(given: Result<Value, Stop>) -> Result<Option<Operand<'v>>, Stop>
-    ensures { result ≡ made given }
+fn made_operand<'v>(given: Result<Value, Stop>) -> Result<Option<Operand<'v>>, Stop>
+    ensures { result ≡ made_operand given }
 {
     match given {
         Ok(value) => Ok(Some(Operand::Made(value))),

@@ -14,7 +14,7 @@ ghost use Rattle.wave_base.specs.declared.value.Value.TheVariants.{Int};
 use crate::ahead::as_far;
 use crate::block::begin_rest;
 use crate::code::Code;
-use crate::eval::found;
+use crate::eval::found_value;
 use crate::fields::item;
 use crate::machine::Machine;
 use crate::operand::is_true;
@@ -61,7 +61,7 @@ fn test_turn<'s>(
     ensures { GoesTo code.entry contexts.old m.old (turns_of cycle.entry ∷ []) (turns_of cycle.entry ∷ []) result contexts.new m.new }
 {
     let base = m.height();
-    match found(code, contexts, m, cycle.test) {
+    match found_value(code, contexts, m, cycle.test) {
         Ok(Some(value)) => match m.give(value) {
             Ok(()) => check_turn(code, contexts, m, cycle, base),
             Err(e) => Err(e),
@@ -246,7 +246,7 @@ fn name_turn<'s>(
         Err(e) => return Err(e),
     }
     let slot = cycle.counter as usize;
-    match item(m.locals.as_slice(), slot).owned(code.alloc) {
+    match item(m.locals.as_slice(), slot).into_value(code.alloc) {
         Ok(number) => {
             m.set_local(slot + 2, number);
             Ok(true)

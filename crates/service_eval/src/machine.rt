@@ -4,7 +4,7 @@ ghost use Rattle.std.specs.Prelude.{◌≡◌, ◌<◌, ◌≤◌, ◌^◌, suc,
 ghost use Rattle.resolved_service.specs.World.{nothing, is_true, key_of};
 ghost use Rattle.service_eval.specs.declared.stop.Stop.{Stop};
 ghost use Rattle.service_eval.specs.inner.Items.{item_of, return_of, to_return};
-ghost use Rattle.service_eval.specs.inner.Machines.{items_of, mach_of, on_top, with_value, cut_to, own, risen};
+ghost use Rattle.service_eval.specs.inner.Machines.{items_of, mach_of, on_top, with_value, cut_to, own, at_parent};
 ghost use Rattle.wave_base.specs.Memory.{the_refusal};
 
 use crate::operand::is_true;
@@ -224,7 +224,7 @@ impl<'s> Machine<'s> {
 
     /// Back to the parent.
     pub fn rise(&mut self)
-        ensures { (tree : _) → mach_of tree self.new ≡ risen (mach_of tree self.old) }
+        ensures { (tree : _) → mach_of tree self.new ≡ at_parent (mach_of tree self.old) }
     {
         if let Some(parent) = self.path.parent() {
             self.path = parent;

@@ -31,7 +31,7 @@ impl<'v> Operand<'v> {
 
     /// The value as the caller's own: one that is kept elsewhere is copied. Memory is asked for by texts and maps alone.
     #[inline(always)]
-    pub fn owned(self, alloc: Global) -> Result<Value, OutOfMemory>
+    pub fn into_value(self, alloc: Global) -> Result<Value, OutOfMemory>
         ensures equal { IfOk result (λ v. v ≡ value_in self.entry) }
         ensures memory { OnErr result (TakesMemory (kind_of (value_in self.entry))) }
     {

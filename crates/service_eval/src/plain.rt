@@ -9,7 +9,7 @@ use crate::given::{
     asks, compares, compares_flags, compares_texts, flag_in, int_in, kind_given, measures,
     reads_int, reckons, turns_int,
 };
-use crate::held::held;
+use crate::held::held_value;
 use crate::look::View;
 use crate::rows::apply_one;
 use crate::stop::Stop;
@@ -29,7 +29,7 @@ pub fn plain<'v>(view: &View<'v, '_>, e: &'v Expr) -> Option<Value>
         Node::Op(row, args) => plain_of(view, *row, args.as_slice(), e.at),
         Node::And(_, _) => truth(flag(view, e)),
         Node::Or(_, _) => truth(flag(view, e)),
-        _ => match held(view, e) {
+        _ => match held_value(view, e) {
             Some(value) => copied(view.code.alloc, value),
             None => None,
         },
@@ -56,7 +56,7 @@ pub fn number<'v>(view: &View<'v, '_>, e: &'v Expr) -> Option<i64>
 {
     match &e.node {
         Node::Op(row, args) => number_of(view, *row, args.as_slice(), e.at),
-        _ => match held(view, e) {
+        _ => match held_value(view, e) {
             Some(Value::Int(n)) => Some(*n),
             _ => None,
         },
@@ -84,7 +84,7 @@ fn number_of_one<'v>(view: &View<'v, '_>, row: u16, a: &'v Expr, at: Span) -> Op
             None => None,
         }
     } else if measures(row as usize) {
-        match held(view, a) {
+        match held_value(view, a) {
             Some(value) => int_found(apply_one(view.code.alloc, row as usize, value, at)),
             None => None,
         }
@@ -112,7 +112,7 @@ fn number_of_two<'v>(
             None => None,
         }
     } else if reads_int(row as usize) {
-        match held(view, a) {
+        match held_value(view, a) {
             Some(Value::Map(map)) => match number(view, b) {
                 Some(key) => int_in(read_map(row as usize, map, key)),
                 None => None,
@@ -141,7 +141,7 @@ pub fn flag<'v>(view: &View<'v, '_>, e: &'v Expr) -> Option<bool>
             Some(false) => flag(view, right),
             None => None,
         },
-        _ => match held(view, e) {
+        _ => match held_value(view, e) {
             Some(Value::Bool(b)) => Some(*b),
             _ => None,
         },
@@ -211,7 +211,7 @@ fn flag_of_held<'v>(
     ensures { IfSome result (λ r. IsWorth view.now (Op at row (tree (tree_of a.now) (tree (tree_of b.now) no_trees))) (Value.Bool r)) }
 {
     if asks(row as usize) {
-        match held(view, a) {
+        match held_value(view, a) {
             Some(Value::Map(map)) => match number(view, b) {
                 Some(key) => flag_in(read_map(row as usize, map, key)),
                 None => None,
@@ -219,8 +219,8 @@ fn flag_of_held<'v>(
             _ => None,
         }
     } else if compares_texts(row as usize) {
-        match held(view, a) {
-            Some(Value::Str(first)) => match held(view, b) {
+        match held_value(view, a) {
+            Some(Value::Str(first)) => match held_value(view, b) {
                 Some(Value::Str(second)) => Some(compare_texts(row as usize, first, second)),
                 _ => None,
             },

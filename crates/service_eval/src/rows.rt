@@ -27,9 +27,9 @@ pub fn apply_any(alloc: Global, row: usize, args: &[Value], at: Span) -> Result<
     ensures { Gives (apply_row row args.now) at result }
 {
     if takes(row, args) {
-        placed(apply(alloc, row, args), at)
+        with_place(apply(alloc, row, args), at)
     } else {
-        placed(Err(OpError::Trap(TrapKind::Absent)), at)
+        with_place(Err(OpError::Trap(TrapKind::Absent)), at)
     }
 }
 
@@ -104,7 +104,10 @@ fn apply_others(alloc: Global, row: usize, a: &Value, b: &Value, at: Span) -> Re
     }
     match (takes_of(row), a, b) {
         (Takes::MapInt, Value::Map(m), Value::Int(k)) => at_key(row, m, *k, at),
-        (Takes::Texts, Value::Str(s), Value::Str(t)) => placed(apply_texts(alloc, row, s, t), at),
+        (Takes::Texts, Value::Str(s), Value::Str(t)) => with_place(
+            apply_texts(alloc, row, s, t),
+            at,
+        ),
         (Takes::Bools, Value::Bool(x), Value::Bool(y)) => {
             Ok(Value::Bool(compare_flags(row, *x, *y)))
         }
@@ -146,7 +149,7 @@ pub fn apply_three(
     }
     match (takes_of(row), a, b, c) {
         (Takes::TextIntInt, Value::Str(t), Value::Int(x), Value::Int(y)) => {
-            placed(part(alloc, t, *x, *y), at)
+            with_place(part(alloc, t, *x, *y), at)
         }
         (Takes::MapIntInt, Value::Map(m), Value::Int(k), Value::Int(v)) => {
             with_pair(m, *k, *v, at)
@@ -165,7 +168,7 @@ fn with_pair(map: &Table, key: i64, value: i64, at: Span) -> Result<Value, Stop>
     match map.copy() {
         Ok(mut more) => match put_pair(&mut more, key, value) {
             Ok(()) => Ok(Value::Map(more)),
-            Err(e) => placed(Err(e), at),
+            Err(e) => with_place(Err(e), at),
         },
         Err(refused) => Err(Stop::OutOfMemory(refused)),
     }
@@ -179,7 +182,7 @@ fn is_full(map: &Table, key: i64) -> bool
 }
 
 // The answer of an operator at a place.
-fn placed(answer: Result<Value, OpError>, at: Span) -> Result<Value, Stop>
+fn with_place(answer: Result<Value, OpError>, at: Span) -> Result<Value, Stop>
     ensures { (given : Answer Value) → Answers given answer → Gives given at result }
 {
     match answer {

@@ -4,8 +4,8 @@ ghost use Rattle.std.specs.Prelude.{◌≡◌, map, Ok, IfSome};
 ghost use Rattle.resolved_service.specs.View.{Op, tree, no_trees, tree_of, trees_of};
 ghost use Rattle.service_eval.specs.inner.Turns.{IsWorth};
 
-use crate::given::{answered, given, joins};
-use crate::held::held;
+use crate::given::{answered_value, given_value, joins};
+use crate::held::held_value;
 use crate::look::View;
 use crate::plain::number;
 use crate::rows::{apply_one, apply_three};
@@ -30,7 +30,7 @@ fn text_of_one<'v>(view: &View<'v, '_>, row: u16, a: &'v Expr, at: Span) -> Opti
     ensures { IfSome result (λ v. IsWorth view.now (Op at row (tree (tree_of a.now) no_trees)) v) }
 {
     match number(view, a) {
-        Some(n) => given(apply_one(view.code.alloc, row as usize, &Value::Int(n), at)),
+        Some(n) => given_value(apply_one(view.code.alloc, row as usize, &Value::Int(n), at)),
         None => None,
     }
 }
@@ -47,10 +47,10 @@ fn text_of_two<'v>(
     if !joins(row as usize) {
         return None;
     }
-    match held(view, a) {
-        Some(Value::Str(first)) => match held(view, b) {
+    match held_value(view, a) {
+        Some(Value::Str(first)) => match held_value(view, b) {
             Some(Value::Str(second)) => {
-                answered(apply_texts(view.code.alloc, row as usize, first, second))
+                answered_value(apply_texts(view.code.alloc, row as usize, first, second))
             }
             _ => None,
         },
@@ -69,13 +69,13 @@ fn text_of_three<'v>(
 ) -> Option<Value>
     ensures { IfSome result (λ v. IsWorth view.now (Op at row (tree (tree_of a.now) (tree (tree_of b.now) (tree (tree_of c.now) no_trees)))) v) }
 {
-    match held(view, a) {
+    match held_value(view, a) {
         Some(text) => match number(view, b) {
             Some(from) => match number(view, c) {
                 Some(to) => {
                     let from = Value::Int(from);
                     let to = Value::Int(to);
-                    given(apply_three(view.code.alloc, row as usize, text, &from, &to, at))
+                    given_value(apply_three(view.code.alloc, row as usize, text, &from, &to, at))
                 }
                 None => None,
             },

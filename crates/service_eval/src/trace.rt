@@ -38,7 +38,7 @@ impl Trace {
         ensures memory { WhereWanting result ⊥ }
     {
         if self.ticks == 0 {
-            return trapped(TrapKind::Ticks, at);
+            return trap_at(TrapKind::Ticks, at);
         }
         self.ticks -= 1;
         Ok(())
@@ -69,7 +69,7 @@ impl Trace {
         ensures memory { WhereWanting result (length self.old.messages.items < MESSAGES) }
     {
         if self.messages.len() >= MESSAGES {
-            return trapped(TrapKind::Sends, at);
+            return trap_at(TrapKind::Sends, at);
         }
         let label = label.copy(alloc)?;
         push(&mut self.messages, Message { label, value })?;
@@ -83,10 +83,10 @@ impl Trace {
         ensures memory { WhereWanting result ((self.old.generation < GENERATION) × length self.old.created.items < SPAWNS) }
     {
         if self.generation == GENERATION {
-            return trapped(TrapKind::Generation, at);
+            return trap_at(TrapKind::Generation, at);
         }
         if self.created.len() >= SPAWNS {
-            return trapped(TrapKind::Spawns, at);
+            return trap_at(TrapKind::Spawns, at);
         }
         let call = Call {
             event,
@@ -99,7 +99,7 @@ impl Trace {
 }
 
 /// A trap at a place.
-pub fn trapped(kind: TrapKind, at: Span) -> Result<(), Stop>
+pub fn trap_at(kind: TrapKind, at: Span) -> Result<(), Stop>
     ensures { result ≡ Err (Stop.Trapped (record { kind = kind; at = at })) }
 {
     Err(Stop::Trapped(Trap { kind, at }))

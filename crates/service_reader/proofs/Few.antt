@@ -11,7 +11,7 @@ use Rattle.mace_ast.specs.Counts.{classes_count, methods_count, IsFew}
 use Rattle.mace_ast.specs.Decls.{ServiceTree, service_tree, contexts_of}
 use Rattle.mace_grammar.specs.Spelled.{words, Spelled}
 use Rattle.service_reader.specs.declared.fault.TextFault.{TextFault}
-use Rattle.service_reader.specs.Parsing.{IsService, looked, Answers}
+use Rattle.service_reader.specs.Parsing.{IsService, tree_read, Answers}
 use Rattle.service_reader.proofs.ReadLemmas.{words_spelled}
 
 -- tokens from this byte on
@@ -36,7 +36,7 @@ service_few take text s h =
     let same : length (words h.tokens) ≡ length h.tokens = length-map h.tokens _ in
     record { classes = omega (arith, least, most, same, h.short); functions = omega (arith, least, most, same, h.short) }
 
-pub few : TakeWords → (text : List ℕ) (result : Result Service TextFault) → Answers text (looked result) → IfOk result (λ s. IsFew (service_tree s))
+pub few : TakeWords → (text : List ℕ) (result : Result Service TextFault) → Answers text (tree_read result) → IfOk result (λ s. IsFew (service_tree s))
 few take text (Ok s) (inl h) = absurd (cc)
 few take text (Ok s) (inr h) = service_few take text (service_tree s) h.is_so
 few take text (Err e) h = tt

@@ -51,9 +51,9 @@ Parses text (Ok tree) = IsService text tree
 Parses text (Err e) = IsTextFault text e
 
 -- what was read, as a tree
-abbrev pub looked : Result Service TextFault → Result ServiceTree TextFault
-looked (Ok s) = Ok (service_tree s)
-looked (Err e) = Err e
+abbrev pub tree_read : Result Service TextFault → Result ServiceTree TextFault
+tree_read (Ok s) = Ok (service_tree s)
+tree_read (Err e) = Err e
 
 -- memory ran out, or this is what it is, and nothing else is
 pub record IsOnlyParse (text : List ℕ) (result : Result ServiceTree TextFault) : Type 0 where

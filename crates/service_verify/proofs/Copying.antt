@@ -15,14 +15,14 @@ use Rattle.wave_base.specs.Shapes.{class_of}
 use Rattle.downgrade_views.specs.Levels.{Level, kept_level}
 use Rattle.service_code.specs.declared.program.Program.{Program}
 use Rattle.service_verify.specs.Boxes.{Box}
-use Rattle.service_verify.specs.Copies.{Trip, tripped, trip_if, next_trip, trip_after, first_trip}
+use Rattle.service_verify.specs.Copies.{Trip, trip_with, trip_if, next_trip, trip_after, first_trip}
 use Rattle.service_verify.specs.Fit.{IsFit}
 use Rattle.service_verify.specs.Points.{IsVerified}
 use Rattle.service_verify.specs.Reads.{kept}
 use Rattle.service_verify.specs.Segments.{segment, left_by}
 use Rattle.service_verify.specs.Standing.{HasFields, HasLevels, Agree, HasTree, LeavesAt}
 use Rattle.service_verify.specs.Steps.{Paused, is_held}
-use Rattle.service_verify.specs.Tours.{Fields, fields_above, Tour, tree_with, into, halted, toured, tour_if, next_tour, tour_after, first_tour}
+use Rattle.service_verify.specs.Tours.{Fields, fields_above, Tour, tree_with, into, tour_at_pause, tour_with, tour_if, next_tour, tour_after, first_tour}
 use Rattle.service_verify.proofs.Agreeing.{segment_same}
 use Rattle.service_verify.proofs.Leveled.{parent_long, levels_child, levels_parent, levels_same, above_has, kept_of, kept_above, kept_has, kept_agree}
 use Rattle.service_verify.proofs.Segmenting.{PausesAs, pauses_as}
@@ -105,14 +105,14 @@ module _ (program : Program) (fit : IsFit program) (verified : IsVerified progra
       marks : List Bool
       marks = kept program (class_of t.tour.box.path)
 
-      is_next : next_trip program t ≡ tripped t (left_by marks above (Paused a.box a.left a.why))
+      is_next : next_trip program t ≡ trip_with t (left_by marks above (Paused a.box a.left a.why))
       is_next =
           ap (trip_if program t) w.running
-          ∙ ap (λ ls. tripped t (left_by marks ls (segment program ls t.tour.box (t.tour.tree.fields t.tour.box.path)))) w.copies
-          ∙ ap (λ m. tripped t (left_by marks above m)) (segment_same program fit verified p above whole agree n t.tour.box (t.tour.tree.fields t.tour.box.path) w.stands.box copies_have has ∙ a.is)
+          ∙ ap (λ ls. trip_with t (left_by marks ls (segment program ls t.tour.box (t.tour.tree.fields t.tour.box.path)))) w.copies
+          ∙ ap (λ m. trip_with t (left_by marks above m)) (segment_same program fit verified p above whole agree n t.tour.box (t.tour.tree.fields t.tour.box.path) w.stands.box copies_have has ∙ a.is)
 
-      is_tour : next_tour program t.tour ≡ halted t.tour a.box a.left a.why
-      is_tour = ap (tour_if program t.tour) w.running ∙ ap (toured t.tour) a.is
+      is_tour : next_tour program t.tour ≡ tour_at_pause t.tour a.box a.left a.why
+      is_tour = ap (tour_if program t.tour) w.running ∙ ap (tour_with t.tour) a.is
 
       -- the tour is the same, and so it stands; and these are the copies
       goes : (next_trip program t).tour ≡ next_tour program t.tour → (next_trip program t).levels ≡ kept_above program (next_trip program t).tour.tree (next_trip program t).tour.box.path → Goes program fit verified p n t.tour (next_tour program t.tour) → TripGoes t
@@ -126,7 +126,7 @@ module _ (program : Program) (fit : IsFit program) (verified : IsVerified progra
           ∙ ap (kept_above program (tree_with t.tour a.left)) (ap (λ q. q ++ s ∷ []) w.stands.box.path ∙ sym at ∙ ap (λ (b : Box). b.path) (sym i.0))
           ∙ sym (i.1 (into t.tour a.box a.left held).box.path)
 
-      by : (why : Pause) → LeavesAt program p n a.box why → next_trip program t ≡ tripped t (left_by marks above (Paused a.box a.left why)) → next_tour program t.tour ≡ halted t.tour a.box a.left why → Goes program fit verified p n t.tour (next_tour program t.tour) → ((next_trip program t).tour ≡ next_tour program t.tour) × TripGoes t
+      by : (why : Pause) → LeavesAt program p n a.box why → next_trip program t ≡ trip_with t (left_by marks above (Paused a.box a.left why)) → next_tour program t.tour ≡ tour_at_pause t.tour a.box a.left why → Goes program fit verified p n t.tour (next_tour program t.tour) → ((next_trip program t).tour ≡ next_tour program t.tour) × TripGoes t
       by (pause.Go s) l is_next is_tour g =
           let same = ap (λ (u : Trip). u.tour) is_next ∙ sym is_tour in
           (same, goes same (subst (λ (u : Trip). u.levels ≡ kept_above program u.tour.tree u.tour.box.path) (sym is_next) (below s (is_held t.tour.box.held a.box.path) l.1.path)) g)

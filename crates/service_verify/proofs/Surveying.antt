@@ -22,11 +22,11 @@ use Rattle.service_verify.specs.declared.error.VerifyError.{VerifyError}
 use Rattle.service_verify.specs.declared.point.Point.{Point}
 use Rattle.service_verify.specs.Boxes.{Frame}
 use Rattle.service_verify.specs.Faults.{Names, IsFirst}
-use Rattle.service_verify.specs.inner.Surveys.{says, mark_of, blank, IsMarked, IsMarkedSoFar, looks_after, looks_by, Keep, IsSurveyed, HasTables}
+use Rattle.service_verify.specs.inner.Surveys.{says, mark_of, unmarked_fields, IsMarked, IsMarkedSoFar, looks_after, looks_by, Keep, IsSurveyed, HasTables}
 use Rattle.service_verify.specs.Looks.{is_quiet, is_go, after_go, stays_behind, is_quiet_function, only_looks, function_peeks, peeks, looks_from}
 use Rattle.service_verify.specs.Points.{Table, table_in, point_in, judged_function, IsVerified, Breaks}
 use Rattle.service_verify.specs.Reads.{Reads, reads_at, code_reads, functions_read, fields_kept, kept}
-use Rattle.service_verify.specs.Rules.{effect_of, levels_above, gives_only, found}
+use Rattle.service_verify.specs.Rules.{effect_of, levels_above, gives_only, judged_item}
 use Rattle.service_verify.specs.Steps.{code_of}
 use Rattle.service_verify.proofs.Frames.{acts}
 use Rattle.service_verify.proofs.Judged.{found_ok, some_same}
@@ -163,7 +163,7 @@ same_at (x ∷ xs) (y ∷ ys) same =
 
 module _ (program : Program) where
   -- before the first function
-  blank_marks : (classes : List ClassInfo) (c f : ℕ) → mark_of (map blank classes) c f ≡ option_map (λ x. false) (slice_get (map (λ (d : FieldInfo). d.kind) (fields_in (slice_get classes c))) f)
+  blank_marks : (classes : List ClassInfo) (c f : ℕ) → mark_of (map unmarked_fields classes) c f ≡ option_map (λ x. false) (slice_get (map (λ (d : FieldInfo). d.kind) (fields_in (slice_get classes c))) f)
   blank_marks [] c f = refl
   blank_marks (k ∷ classes) (suc c) f = blank_marks classes c f
   blank_marks (k ∷ classes) zero f = of_fields k.fields f
@@ -178,7 +178,7 @@ module _ (program : Program) where
   kept_each class first (k ∷ ks) zero = let z : first + 0 ≡ first = omega arith in ap (λ m. Some (functions_read program class m 0 program.functions)) z
   kept_each class first (k ∷ ks) (suc f) = let s : first + suc f ≡ suc first + f = omega arith in ap (λ m. option_map (λ b. b || functions_read program class m 0 program.functions) (option_map (λ x. false) (slice_get ks f))) s ∙ kept_each class (suc first) ks f
 
-  pub first_surveyed : (marks : List (List Bool)) (quiet : List Bool) (looks : List (Option ℕ)) → marks ≡ map blank program.shape.classes → quiet ≡ [] → looks ≡ [] → IsSurveyed program 0 marks quiet looks
+  pub first_surveyed : (marks : List (List Bool)) (quiet : List Bool) (looks : List (Option ℕ)) → marks ≡ map unmarked_fields program.shape.classes → quiet ≡ [] → looks ≡ [] → IsSurveyed program 0 marks quiet looks
   unfolding kept
   first_surveyed marks quiet looks is no_quiet no_looks = record {
     classes = ap length is ∙ long program.shape.classes;
@@ -193,7 +193,7 @@ module _ (program : Program) where
     only_look = λ n lt. absurd (omega arith);
   }
     where
-      long : (cs : List ClassInfo) → length (map blank cs) ≡ length cs
+      long : (cs : List ClassInfo) → length (map unmarked_fields cs) ≡ length cs
       long [] = refl
       long (c ∷ cs) = ap suc (long cs)
 
@@ -308,7 +308,7 @@ module _ (program : Program) where
       let frame : Frame = record { function = r.number; place = r.place; stack = []; locals = []; down = false } in
       let a = acts program verified frame r.function r.point r.is_there r.is_point in
       let same : a.instr ≡ Above r.level f = some_same a.instr (Above r.level f) (sym a.is_instr ∙ r.is_instr) in
-      found_ok rule.Field (slice_get (levels_above program.shape r.point.class.0) r.level) (λ d. found rule.Field (slice_get (kinds_of_class program.shape d) f) (λ kind. gives_only kind)) a.leads.effect (ap (effect_of program r.number r.function r.point.class.0) (sym same) ∙ a.leads.is_effect) (λ d is_d is_found.
+      found_ok rule.Field (slice_get (levels_above program.shape r.point.class.0) r.level) (λ d. judged_item rule.Field (slice_get (kinds_of_class program.shape d) f) (λ kind. gives_only kind)) a.leads.effect (ap (effect_of program r.number r.function r.point.class.0) (sym same) ∙ a.leads.is_effect) (λ d is_d is_found.
       found_ok rule.Field (slice_get (kinds_of_class program.shape d) f) (λ kind. gives_only kind) a.leads.effect is_found (λ kind is_kind rest.
       slice_get_within (kinds_of_class program.shape c) f kind (ap (λ e. slice_get (kinds_of_class program.shape e) f) (some_same c d (sym r.is_ancestor ∙ is_d)) ∙ is_kind)))
 

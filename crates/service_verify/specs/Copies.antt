@@ -6,20 +6,20 @@ use Rattle.wave_base.specs.Tree.{Tree}
 use Rattle.downgrade_views.specs.Levels.{Level}
 use Rattle.service_code.specs.declared.program.Program.{Program}
 use Rattle.service_verify.specs.Segments.{Left, event_segment}
-use Rattle.service_verify.specs.Tours.{Fields, Tour, halted, first_tour}
+use Rattle.service_verify.specs.Tours.{Fields, Tour, tour_at_pause, first_tour}
 
 pub record Trip : Type 0 where
   pub tour : Tour
   pub levels : List Level
 
-abbrev pub tripped : Trip → Option Left → Trip
-tripped t None = t
-tripped t (Some l) = record { tour = halted t.tour l.event.box l.fields l.pause; levels = l.event.levels }
+abbrev pub trip_with : Trip → Option Left → Trip
+trip_with t None = t
+trip_with t (Some l) = record { tour = tour_at_pause t.tour l.event.box l.fields l.pause; levels = l.event.levels }
 
 module _ (program : Program) where
   abbrev pub trip_if : Trip → Option EventResult → Trip
   trip_if t (Some r) = t
-  trip_if t None = tripped t (event_segment program (record { box = t.tour.box; levels = t.levels }) (t.tour.tree.fields t.tour.box.path))
+  trip_if t None = trip_with t (event_segment program (record { box = t.tour.box; levels = t.levels }) (t.tour.tree.fields t.tour.box.path))
 
   -- one segment more, unless it is over
   abbrev pub next_trip : Trip → Trip

@@ -8,7 +8,7 @@ use Rattle.service_code.specs.declared.program.Program.{Program}
 use Rattle.service_verify.specs.declared.error.Rule.{Rule}
 use Rattle.service_verify.specs.declared.error.Rule.TheVariants as rule
 use Rattle.service_verify.specs.declared.point.Point.{Point}
-use Rattle.service_verify.specs.Rules.{Judged, found, must, judged_then, kind_eq, effect_of, left_below, ends, class_after, next_of}
+use Rattle.service_verify.specs.Rules.{Judged, judged_item, must, judged_then, kind_eq, effect_of, left_below, ends, class_after, next_of}
 
 -- for each instruction what was fixed so far
 abbrev pub Table : Type 0
@@ -40,7 +40,7 @@ arrived_at n p (Some q) t = agreed p q t
 
 -- an arrival at an instruction, which must be there
 abbrev pub arrival : ℕ → Point → Table → Judged Table
-arrival n p t = found rule.Jump (slice_get t n) (λ q. arrived_at n p q t)
+arrival n p t = judged_item rule.Jump (slice_get t n) (λ q. arrived_at n p q t)
 
 abbrev pub arrivals : List ℕ → Point → Table → Judged Table
 arrivals [] p t = Ok t
@@ -69,8 +69,8 @@ module _ (program : Program) (number : ℕ) (function : Function) where
   -- an instruction, which an earlier one must have reached
   unfoldable pub visit : ℕ → Instr → Table → Judged Table
   visit n i t =
-      found rule.Jump (slice_get t n) (λ q.
-      found rule.Jump q (λ p.
+      judged_item rule.Jump (slice_get t n) (λ q.
+      judged_item rule.Jump q (λ p.
       judged_then (point_after i p) (λ after. arrivals (next_of i n) after t)))
 
   -- the instructions from number n on

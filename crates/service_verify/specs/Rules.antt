@@ -20,9 +20,9 @@ abbrev pub Judged : Type 0 → Type 0
 Judged A = Result A Rule
 
 -- what is there, or the rule is broken
-abbrev pub found : {A B : Type 0} → Rule → Option A → (A → Judged B) → Judged B
-found r None go = Err r
-found r (Some x) go = go x
+abbrev pub judged_item : {A B : Type 0} → Rule → Option A → (A → Judged B) → Judged B
+judged_item r None go = Err r
+judged_item r (Some x) go = go x
 
 -- the test holds, or the rule is broken
 abbrev pub must : {B : Type 0} → Rule → Bool → Judged B → Judged B
@@ -81,13 +81,13 @@ a_bool = Some k.Bool
 -- an instruction of the function with this number, in a context of this class
 module _ (program : Program) (number : ℕ) (function : Function) (class : ℕ) where
   abbrev pub local : ℕ → (Kind → Judged Effect) → Judged Effect
-  local s go = found rule.Field (slice_get function.locals s) go
+  local s go = judged_item rule.Field (slice_get function.locals s) go
 
   abbrev pub field_of : ℕ → ℕ → (Kind → Judged Effect) → Judged Effect
-  field_of c f go = found rule.Field (slice_get (kinds_of_class program.shape c) f) go
+  field_of c f go = judged_item rule.Field (slice_get (kinds_of_class program.shape c) f) go
 
   abbrev pub text : ℕ → Judged Effect → Judged Effect
-  text i go = found rule.Field (slice_get program.texts i) (λ t. go)
+  text i go = judged_item rule.Field (slice_get program.texts i) (λ t. go)
 
   -- a method of a class
   abbrev pub is_method_of : ℕ → Function → Bool
@@ -105,7 +105,7 @@ module _ (program : Program) (number : ℕ) (function : Function) (class : ℕ) 
   effect_of (Store s) = local s (λ kind. takes_only (Some kind ∷ []))
   effect_of (Field f) = field_of class f (λ kind. gives_only kind)
   effect_of (SetField f) = field_of class f (λ kind. takes_only (Some kind ∷ []))
-  effect_of (Above l f) = found rule.Field (slice_get (levels_above program.shape class) l) (λ c. field_of c f (λ kind. gives_only kind))
+  effect_of (Above l f) = judged_item rule.Field (slice_get (levels_above program.shape class) l) (λ c. field_of c f (λ kind. gives_only kind))
   effect_of (Op r) = must rule.Field (nat_lt r OPERATORS) (Ok (record { takes = operands (takes_of r); gives = Some (gives_of r) }))
   effect_of (PutLocal s) = local s (takes_for_map (an_int ∷ an_int ∷ []))
   effect_of (PutField f) = field_of class f (takes_for_map (an_int ∷ an_int ∷ []))
@@ -114,15 +114,15 @@ module _ (program : Program) (number : ℕ) (function : Function) (class : ℕ) 
   effect_of (Jump i) = takes_only []
   effect_of (JumpFalse i) = takes_only (a_bool ∷ [])
   effect_of Tick = takes_only []
-  effect_of (Call g) = found rule.Call (slice_get program.functions g) (λ f. must rule.Call (is_method_of class f && nat_lt g number) (calls f []))
-  effect_of (CallDown c g) = must rule.Call (is_child_class program.shape class c.0) (found rule.Call (slice_get program.functions g) (λ f. must rule.Call (is_method_of c.0 f) (calls f (an_int ∷ []))))
+  effect_of (Call g) = judged_item rule.Call (slice_get program.functions g) (λ f. must rule.Call (is_method_of class f && nat_lt g number) (calls f []))
+  effect_of (CallDown c g) = must rule.Call (is_child_class program.shape class c.0) (judged_item rule.Call (slice_get program.functions g) (λ f. must rule.Call (is_method_of c.0 f) (calls f (an_int ∷ []))))
   effect_of Return = must rule.Call (not function.is_event) (takes_only (map (λ k. Some k) (option_to_list function.result)))
   effect_of Pop = takes_only (any ∷ [])
   effect_of Require = takes_only (a_bool ∷ [])
   effect_of (Send i) = text i (takes_only (any ∷ []))
-  effect_of (Spawn e) = found rule.Call (slice_get program.shape.events e) (λ e. takes_only (operands e.params))
+  effect_of (Spawn e) = judged_item rule.Call (slice_get program.shape.events e) (λ e. takes_only (operands e.params))
   effect_of (Go c) = must rule.Call (function.is_event && is_child_class program.shape class c.0) (takes_only (an_int ∷ []))
-  effect_of Reply = must rule.Call function.is_event (found rule.Kind function.result (λ kind. takes_only (Some kind ∷ [])))
+  effect_of Reply = must rule.Call function.is_event (judged_item rule.Kind function.result (λ kind. takes_only (Some kind ∷ [])))
   effect_of End = must rule.Call function.is_event (must rule.Kind (is_none function.result) (takes_only []))
 
 -- the kind is the one that is asked for

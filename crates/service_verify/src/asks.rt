@@ -3,7 +3,7 @@
 ghost use Rattle.std.specs.Prelude.{◌≡◌, ◌≤◌, Some, None, length, slice_get, option_map};
 ghost use Rattle.value_ops.specs.Rows.{wave_rows_2};
 ghost use Rattle.wave_base.specs.Shapes.{kinds_of_class};
-ghost use Rattle.service_verify.specs.inner.Asks.{asked, takes_in, Finds, Has};
+ghost use Rattle.service_verify.specs.inner.Asks.{asked_effect, takes_in, Finds, Has};
 ghost use Rattle.service_verify.specs.Rules.{effect_of, classes_above, levels_above, takes_for_map};
 
 use crate::error::Rule;
@@ -74,7 +74,7 @@ impl<'p> Judge<'p> {
     #[tactic(auto, unfolding(crate::specs::Rules::effect_of))]
     pub fn asks(&self, class: Class, instr: Instr) -> Result<Asks<'p>, Rule>
         requires { self.now.operators.now ≡ wave_rows_2 }
-        ensures { asked result ≡ effect_of self.now.program.now self.now.number self.now.function.now class.0 instr }
+        ensures { asked_effect result ≡ effect_of self.now.program.now self.now.number self.now.function.now class.0 instr }
     {
         match instr {
             Instr::PushInt(_) => Ok(giving(Kind::Int)),
@@ -146,7 +146,7 @@ impl<'p> Judge<'p> {
 
     #[tactic(auto, unfolding(crate::specs::Rules::effect_of))]
     fn above(&self, class: Class, level: u16, f: u16) -> Result<Asks<'p>, Rule>
-        ensures { asked result ≡ effect_of self.now.program.now self.now.number self.now.function.now class.0 (Instr.Above level f) }
+        ensures { asked_effect result ≡ effect_of self.now.program.now self.now.number self.now.function.now class.0 (Instr.Above level f) }
     {
         match ancestor(&self.program.shape, class, level as usize) {
             Some(class) => Ok(giving(self.field(class, f)?)),
@@ -157,7 +157,7 @@ impl<'p> Judge<'p> {
     #[tactic(auto, unfolding(crate::specs::Rules::effect_of))]
     fn row(&self, row: u16) -> Result<Asks<'p>, Rule>
         requires { self.now.operators.now ≡ wave_rows_2 }
-        ensures { asked result ≡ effect_of self.now.program.now self.now.number self.now.function.now 0 (Instr.Op row) }
+        ensures { asked_effect result ≡ effect_of self.now.program.now self.now.number self.now.function.now 0 (Instr.Op row) }
     {
         if row as usize >= OPERATORS {
             return Err(Rule::Field);
@@ -171,7 +171,7 @@ impl<'p> Judge<'p> {
 
     #[tactic(auto, unfolding(crate::specs::Rules::effect_of))]
     fn call(&self, class: Class, g: u16) -> Result<Asks<'p>, Rule>
-        ensures { asked result ≡ effect_of self.now.program.now self.now.number self.now.function.now class.0 (Instr.Call g) }
+        ensures { asked_effect result ≡ effect_of self.now.program.now self.now.number self.now.function.now class.0 (Instr.Call g) }
     {
         match self.program.functions.get(g as usize) {
             Some(f) if !f.is_event && f.class.0 == class.0 && g < self.number => Ok(Asks {
@@ -184,7 +184,7 @@ impl<'p> Judge<'p> {
 
     #[tactic(auto, unfolding(crate::specs::Rules::effect_of))]
     fn call_down(&self, class: Class, child: Class, g: u16) -> Result<Asks<'p>, Rule>
-        ensures { asked result ≡ effect_of self.now.program.now self.now.number self.now.function.now class.0 (Instr.CallDown child g) }
+        ensures { asked_effect result ≡ effect_of self.now.program.now self.now.number self.now.function.now class.0 (Instr.CallDown child g) }
     {
         if !self.program.shape.is_child(class, child) {
             return Err(Rule::Call);
@@ -200,7 +200,7 @@ impl<'p> Judge<'p> {
 
     #[tactic(auto, unfolding(crate::specs::Rules::effect_of))]
     fn ends_method(&self) -> Result<Asks<'p>, Rule>
-        ensures { asked result ≡ effect_of self.now.program.now self.now.number self.now.function.now 0 Instr.Return }
+        ensures { asked_effect result ≡ effect_of self.now.program.now self.now.number self.now.function.now 0 Instr.Return }
     {
         if self.function.is_event {
             return Err(Rule::Call);
@@ -213,7 +213,7 @@ impl<'p> Judge<'p> {
 
     #[tactic(auto, unfolding(crate::specs::Rules::effect_of))]
     fn spawn(&self, event: u16) -> Result<Asks<'p>, Rule>
-        ensures { asked result ≡ effect_of self.now.program.now self.now.number self.now.function.now 0 (Instr.Spawn event) }
+        ensures { asked_effect result ≡ effect_of self.now.program.now self.now.number self.now.function.now 0 (Instr.Spawn event) }
     {
         match self.program.shape.events.get(event as usize) {
             Some(event) => Ok(taking(Takes::Kinds(event.params.as_slice()))),
@@ -223,7 +223,7 @@ impl<'p> Judge<'p> {
 
     #[tactic(auto, unfolding(crate::specs::Rules::effect_of))]
     fn go(&self, class: Class, child: Class) -> Result<Asks<'p>, Rule>
-        ensures { asked result ≡ effect_of self.now.program.now self.now.number self.now.function.now class.0 (Instr.Go child) }
+        ensures { asked_effect result ≡ effect_of self.now.program.now self.now.number self.now.function.now class.0 (Instr.Go child) }
     {
         if self.function.is_event && self.program.shape.is_child(class, child) {
             Ok(taking(Takes::One(Kind::Int)))
@@ -234,7 +234,7 @@ impl<'p> Judge<'p> {
 
     #[tactic(auto, unfolding(crate::specs::Rules::effect_of))]
     fn replies(&self) -> Result<Asks<'p>, Rule>
-        ensures { asked result ≡ effect_of self.now.program.now self.now.number self.now.function.now 0 Instr.Reply }
+        ensures { asked_effect result ≡ effect_of self.now.program.now self.now.number self.now.function.now 0 Instr.Reply }
     {
         if !self.function.is_event {
             return Err(Rule::Call);
@@ -247,7 +247,7 @@ impl<'p> Judge<'p> {
 
     #[tactic(auto, unfolding(crate::specs::Rules::effect_of))]
     fn ends_event(&self) -> Result<Asks<'p>, Rule>
-        ensures { asked result ≡ effect_of self.now.program.now self.now.number self.now.function.now 0 Instr.End }
+        ensures { asked_effect result ≡ effect_of self.now.program.now self.now.number self.now.function.now 0 Instr.End }
     {
         if !self.function.is_event {
             return Err(Rule::Call);
@@ -261,7 +261,7 @@ impl<'p> Judge<'p> {
 
 // A map takes a key, and a value above it where there is one.
 fn for_map(kind: Kind, takes: Takes<'_>) -> Result<Asks<'_>, Rule>
-    ensures { asked result ≡ takes_for_map (takes_in takes.entry) kind }
+    ensures { asked_effect result ≡ takes_for_map (takes_in takes.entry) kind }
 {
     match kind {
         Kind::Map => Ok(taking(takes)),

@@ -60,7 +60,7 @@ impl Judge<'_> {
         requires place { n < 2 ^ 63 }
         ensures { Judges (visit self.now.program.now self.now.number self.now.function.now n instr table.old.items) table.new.items result }
     {
-        let mut point = reached(alloc, table.as_slice(), n)?;
+        let mut point = point_at(alloc, table.as_slice(), n)?;
         self.lead(instr, &mut point)?;
         arrive_all(alloc, next_of(instr, n), point, table)
     }
@@ -118,7 +118,7 @@ fn class_after(instr: Instr, class: Class) -> Class
 }
 
 // A copy of the point at an instruction, which an earlier one must have reached.
-fn reached(alloc: Global, table: &[Option<Point>], n: usize) -> Result<Point, Refusal>
+fn point_at(alloc: Global, table: &[Option<Point>], n: usize) -> Result<Point, Refusal>
     ensures { MatchResult result (λ p. slice_get table.now n ≡ Some (Some p)) (λ e. IsUnreached table.now n e) }
 {
     match table.get(n) {

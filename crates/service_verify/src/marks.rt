@@ -3,7 +3,7 @@
 ghost use Rattle.std.specs.Prelude.{◌≡◌, ◌&&◌, ◌==◌, Some, map, option_map, slice_get, IfOk};
 ghost use Rattle.service_verify.specs.Points.{point_in};
 ghost use Rattle.service_verify.specs.Reads.{reads_at, code_reads};
-ghost use Rattle.service_verify.specs.inner.Surveys.{IsMarked, blank};
+ghost use Rattle.service_verify.specs.inner.Surveys.{IsMarked, unmarked_fields};
 
 use crate::asks::ancestor;
 use crate::point::Point;
@@ -12,8 +12,8 @@ use std::alloc::Global;
 use wave_base::{Class, OutOfMemory, Seq, Shape};
 
 /// For each class, and each of its fields, no mark.
-pub fn unmarked(alloc: Global, shape: &Shape) -> Result<Vec<Seq<bool>>, OutOfMemory>
-    ensures { IfOk result (λ marks. marks.items ≡ map blank shape.now.classes) }
+pub fn unmarked_fields(alloc: Global, shape: &Shape) -> Result<Vec<Seq<bool>>, OutOfMemory>
+    ensures { IfOk result (λ marks. marks.items ≡ map unmarked_fields shape.now.classes) }
 {
     let mut marks = Vec::new(alloc);
     for class in shape.classes.as_slice() {

@@ -5,7 +5,7 @@ ghost use Rattle.service_verify.specs.Points.{judged_function};
 ghost use Rattle.service_verify.specs.inner.Surveys.{Keep, IsSurveyed};
 
 use crate::looks::{looks_from, only_looks};
-use crate::marks::{mark_reads, unmarked};
+use crate::marks::{mark_reads, unmarked_fields};
 use crate::point::Point;
 use service_code::{Function, Program};
 use std::alloc::Global;
@@ -29,7 +29,7 @@ impl Survey {
         ensures { IfOk result (λ s. IsSurveyed program.now 0 s.kept.items s.quiet.items s.looks.items) }
     {
         Ok(Survey {
-            kept: unmarked(alloc, &program.shape)?,
+            kept: unmarked_fields(alloc, &program.shape)?,
             quiet: Vec::new(alloc),
             looks: Vec::new(alloc),
         })

@@ -52,7 +52,7 @@ impl Verified {
 
     /// For each field of a class, whether some instruction reads it from a context below: an event that leaves such a
     /// context downwards keeps a copy of these fields alone.
-    pub fn kept(&self, class: Class) -> &Seq<bool>
+    pub fn kept_fields(&self, class: Class) -> &Seq<bool>
         requires { class.0 < length self.now.shape.classes }
         ensures kept { result.now ≡ kept self.now class.0 }
         ensures exact { (field : ℕ) → slice_get result.now field ≡ Some true ↔ Reads self.now class.0 field }

@@ -5,7 +5,7 @@ ghost use Rattle.wave_base.specs.declared.span.Span.{Span};
 ghost use Rattle.wave_base.specs.declared.value.Value.{Value};
 ghost use Rattle.service_code.specs.declared.instr.Instr.TheVariants as instr;
 ghost use Rattle.service_code.specs.declared.program.Program.{Program};
-ghost use Rattle.service_verify.specs.Steps.{taken};
+ghost use Rattle.service_verify.specs.Steps.{taken_values};
 ghost use Rattle.service_vm.specs.inner.Acts.{Did, Does, Stays};
 ghost use Rattle.service_vm.specs.inner.Stacks.{truth_on_top};
 
@@ -89,7 +89,7 @@ impl Run {
     #[tactic(auto, unfolding(service_verify::specs::Steps::acted))]
     pub fn call(&mut self, number: u16, function: &Function) -> Result<(), OutOfMemory>
         requires place { self.old.frames.top.place < 2 ^ 63 }
-        requires args { IsSome (taken (length function.now.args) [] self.old.frames.top.stack) }
+        requires args { IsSome (taken_values (length function.now.args) [] self.old.frames.top.stack) }
         requires locals { length function.now.args ≤ length function.now.locals }
         ensures did { OnOk result ((program : Program) (at : Span) (fields : List Value) → slice_get program.functions number ≡ Some function.now → Did program self.old (instr.Call number) at fields None self.new fields) }
         ensures stays { Stays self.old self.new }

@@ -33,11 +33,11 @@ pub struct EventBox {
 
 impl Model for EventBox {
     ghost use Rattle.deferred_out.specs.Kept.{IsKept};
-    ghost use Rattle.service_vm.specs.Boxes.{Boxed, boxed};
+    ghost use Rattle.service_vm.specs.Boxes.{Boxed, boxed_run};
 
     ghost Value = { Boxed };
 
-    ghost view = { λ e. boxed e.ended e.run e.ticket e.peeking };
+    ghost view = { λ e. boxed_run e.ended e.run e.ticket e.peeking };
 
     ghost invariant = { λ e. IsKept e.run.outputs };
 }
@@ -166,7 +166,7 @@ fn run_to_pause(
         .run
         .pause(program.program(), program.links(), &mut body.fields)?;
     match &why {
-        Pause::Go(_) | Pause::Down(_) => event.run.views.leave(body, program.kept(class))?,
+        Pause::Go(_) | Pause::Down(_) => event.run.views.leave(body, program.kept_fields(class))?,
         Pause::Back => event.run.views.back(),
         Pause::Over(_) => event.ended = true,
     }

@@ -3,7 +3,7 @@
 ghost use Rattle.std.specs.Prelude.{◌≡◌, ◌<◌, ◌∷◌, List, Some, length};
 ghost use Rattle.wave_base.specs.declared.value.Value.{Value};
 ghost use Rattle.service_verify.specs.Steps.{Move};
-ghost use Rattle.service_vm.specs.inner.Acts.{moved, Flows, Stays};
+ghost use Rattle.service_vm.specs.inner.Acts.{next_move, Flows, Stays};
 
 use crate::run::Run;
 use wave_base::{Outcome, Pause, Span, Step, TrapKind};
@@ -33,7 +33,7 @@ impl Run {
     pub fn stop(&mut self, flow: Flow, at: Span) -> Pause
         requires stops { flow ≡ Flow.On → ⊥ }
         requires value { flow ≡ Flow.Reply → 0 < length self.old.frames.top.stack }
-        ensures stopped { (m : Move) (fields : List Value) → Flows m at flow self.old fields → m ≡ moved (Some result) self.new fields }
+        ensures stopped { (m : Move) (fields : List Value) → Flows m at flow self.old fields → m ≡ next_move (Some result) self.new fields }
         ensures stays { Stays self.old self.new }
     {
         match flow {

@@ -7,7 +7,7 @@ ghost use Rattle.wave_base.specs.declared.value.Value.{Value};
 ghost use Rattle.deferred_out.specs.Kept.{IsKept};
 ghost use Rattle.service_code.specs.declared.instr.Instr.TheVariants as instr;
 ghost use Rattle.service_code.specs.declared.program.Program.{Program};
-ghost use Rattle.service_verify.specs.Steps.{taken};
+ghost use Rattle.service_verify.specs.Steps.{taken_values};
 ghost use Rattle.service_vm.specs.inner.Acts.{Does, Stays};
 
 use crate::flow::Flow;
@@ -40,7 +40,7 @@ impl Run {
     #[inline(never)]
     pub fn spawn(&mut self, event: u16, count: usize) -> Result<Flow, OutOfMemory>
         requires place { self.old.frames.top.place < 2 ^ 63 }
-        requires args { IsSome (taken count [] self.old.frames.top.stack) }
+        requires args { IsSome (taken_values count [] self.old.frames.top.stack) }
         requires few { IsKept self.old.outputs }
         requires generation { self.old.generation ≤ GENERATION }
         ensures does { IfOk result (λ flow. (program : Program) (e : EventInfo) (fields : List Value) → slice_get program.shape.events event ≡ Some e → length e.params ≡ count → Does program self.old (instr.Spawn event) fields flow self.new fields) }

@@ -6,9 +6,9 @@ ghost use Rattle.wave_base.specs.declared.limits.TheConstants.{CONTEXTS, TICKS};
 ghost use Rattle.wave_base.specs.declared.value.Value.{Value};
 ghost use Rattle.wave_base.specs.Paths.{path_cmp};
 ghost use Rattle.deferred_out.specs.Kept.{nothing};
-ghost use Rattle.service_verify.specs.Steps.{is_held, trapped, finished};
+ghost use Rattle.service_verify.specs.Steps.{is_held, trap_move, end_move};
 ghost use Rattle.service_vm.specs.Boxes.{box_of};
-ghost use Rattle.service_vm.specs.inner.Acts.{moved, Settled, Stays};
+ghost use Rattle.service_vm.specs.inner.Acts.{next_move, Settled, Stays};
 ghost use Rattle.service_vm.specs.inner.Stacks.{moved_on};
 
 use crate::flow::Flow;
@@ -80,7 +80,7 @@ impl Run {
 
     /// The end by a trap at a place of the service text, which throws away what the event sent and created.
     pub fn trap(&mut self, kind: TrapKind, at: Span) -> Pause
-        ensures trapped { (fields : List Value) → trapped kind at (box_of self.old) fields ≡ moved (Some result) self.new fields }
+        ensures trapped { (fields : List Value) → trap_move kind at (box_of self.old) fields ≡ next_move (Some result) self.new fields }
         ensures stays { Stays self.old self.new }
     {
         self.outputs.discard();
@@ -110,7 +110,7 @@ impl Run {
 
     /// The end by itself, with what the event sent and created.
     pub fn finish(&mut self, outcome: Outcome) -> Pause
-        ensures finished { (fields : List Value) → finished outcome (box_of self.old) fields ≡ moved (Some result) self.new fields }
+        ensures finished { (fields : List Value) → end_move outcome (box_of self.old) fields ≡ next_move (Some result) self.new fields }
         ensures stays { Stays self.old self.new }
     {
         let (messages, created) = self.outputs.take();

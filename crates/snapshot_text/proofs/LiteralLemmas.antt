@@ -3,7 +3,7 @@ use Rattle.std.proofs.Common.{◌≡◌, ◌⊎◌, inl, inr, ℕ, Bool, true, f
 use Rattle.std.specs.Prelude.{◌||◌, ◌==◌, codes, nat_eq}
 use Rattle.std.proofs.lemmas.Bool.{and_parts, or_cases, false≢true}
 use Rattle.std.proofs.lemmas.Bool.Decides.{nat_tests}
-use Rattle.wave_base.specs.Text.{escaped}
+use Rattle.wave_base.specs.Text.{escaped_text}
 use Rattle.wave_base.specs.Names.{same_bytes}
 use Rattle.wave_text.specs.Quotes.{Quotes}
 use Rattle.wave_text.specs.Splits.{IsSplit}
@@ -32,7 +32,7 @@ braced_by : (text left : List ℕ) (l : Literal) → 123 ∷ text ≡ literal_te
 braced_by text left (Number n) e f = absurd (false≢true (number_first 123 n text left f e))
 braced_by text left (Truth true) e f = absurd (other_first 123 116 text (114 ∷ 117 ∷ 101 ∷ left) refl e)
 braced_by text left (Truth false) e f = absurd (other_first 123 102 text (97 ∷ 108 ∷ 115 ∷ 101 ∷ left) refl e)
-braced_by text left (Text t) e f = absurd (other_first 123 34 text ((escaped t ++ 34 ∷ []) ++ left) refl e)
+braced_by text left (Text t) e f = absurd (other_first 123 34 text ((escaped_text t ++ 34 ∷ []) ++ left) refl e)
 braced_by text left (Map ps) e f = (ps, f, same_rest 123 text ((pairs_text ps ++ 125 ∷ []) ++ left) e ∙ append_assoc (pairs_text ps) (125 ∷ []) left)
 
 pub brace_only : (text left : List ℕ) → HasLiteral (123 ∷ text) left → (ps : List (List ℕ × List ℕ)) × (are_pairs ps ≡ true) × (text ≡ pairs_text ps ++ 125 ∷ left)
@@ -43,7 +43,7 @@ brace_only text left h = braced_by text left h.literal h.spelled h.form
 pub quoted_is : (text t rest : List ℕ) → Quotes text t rest → HasLiteral (34 ∷ text) rest
 quoted_is text t rest q = record {
   literal = Text t;
-  spelled = ap (λ z. 34 ∷ z) (q.spelled ∙ sym (append_assoc (escaped t) (34 ∷ []) rest));
+  spelled = ap (λ z. 34 ∷ z) (q.spelled ∙ sym (append_assoc (escaped_text t) (34 ∷ []) rest));
   form = q.printable;
 }
 
@@ -110,5 +110,5 @@ module _ (text run rest : List ℕ) (r : IsRun text run rest) where
           (ap (λ t. t || (same_bytes run (codes "true") || same_bytes run (codes "false"))) (ap is_plain o.0 ∙ f), sym o.1)
       by_literal (Truth true) e f = (let o = one_run text run rest r (codes "true") left refl ends e in (ap is_bare o.0, sym o.1))
       by_literal (Truth false) e f = (let o = one_run text run rest r (codes "false") left refl ends e in (ap is_bare o.0, sym o.1))
-      by_literal (Text t) e f = absurd (quote ((escaped t ++ 34 ∷ []) ++ left) e)
+      by_literal (Text t) e f = absurd (quote ((escaped_text t ++ 34 ∷ []) ++ left) e)
       by_literal (Map ps) e f = absurd (brace ((pairs_text ps ++ 125 ∷ []) ++ left) e)

@@ -5,7 +5,7 @@ use Rattle.std.specs.List.{list_all}
 use Rattle.std.proofs.lemmas.Bool.{and_parts}
 use Rattle.std.proofs.lemmas.Bool.Decides.{nat_tests}
 use Rattle.std.proofs.lemmas.List.Elements.{All-head, All-tail}
-use Rattle.wave_base.specs.Text.{escaped_byte, escaped}
+use Rattle.wave_base.specs.Text.{escaped_byte, escaped_text}
 use Rattle.wave_base.specs.declared.path.Path.{Path}
 use Rattle.wave_base.specs.declared.shape.FieldInfo.{FieldInfo}
 use Rattle.wave_base.specs.declared.shape.Shape.{Shape}
@@ -43,15 +43,15 @@ byte_no_feed b h =
       | false ↦ ap (λ t. t && true) (printable_no_feed b h)
     ]
 
-escaped_no_feed : (t : List ℕ) → All IsPrintable t → HasNone 10 (escaped t)
+escaped_no_feed : (t : List ℕ) → All IsPrintable t → HasNone 10 (escaped_text t)
 escaped_no_feed [] h = refl
-escaped_no_feed (b ∷ bs) h = none-append 10 (escaped_byte b) (escaped bs) (byte_no_feed b (All-head IsPrintable b bs h)) (escaped_no_feed bs (All-tail IsPrintable b bs h))
+escaped_no_feed (b ∷ bs) h = none-append 10 (escaped_byte b) (escaped_text bs) (byte_no_feed b (All-head IsPrintable b bs h)) (escaped_no_feed bs (All-tail IsPrintable b bs h))
 
 value_no_feed : (v : Value) → IsValue v → HasNone 10 (value_text v)
 value_no_feed (value.Int z) h = number_has_none 10 (lit< tt) z h
 value_no_feed (value.Bool true) h = refl
 value_no_feed (value.Bool false) h = refl
-value_no_feed (value.Str t) h = none-append 10 (34 ∷ escaped t) (34 ∷ []) (escaped_no_feed t h.printable) refl
+value_no_feed (value.Str t) h = none-append 10 (34 ∷ escaped_text t) (34 ∷ []) (escaped_no_feed t h.printable) refl
 value_no_feed (value.Map m) h =
     none-append 10 (123 ∷ pairs_text m) (125 ∷ []) (subst (HasNone 10) (sym (pairs_joined m)) (joined_no_feed m (fit_of m h.1))) refl
 

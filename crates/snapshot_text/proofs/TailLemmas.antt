@@ -12,7 +12,7 @@ use Rattle.snapshot_text.specs.declared.error.Fault.{Fault}
 use Rattle.snapshot_text.specs.declared.error.Fault.TheVariants as fault
 use Rattle.snapshot_text.specs.declared.error.ShotError.{ShotError}
 use Rattle.snapshot_text.specs.declared.error.ShotError.TheVariants as error
-use Rattle.snapshot_text.specs.Refusals.{refused}
+use Rattle.snapshot_text.specs.Refusals.{error_at}
 use Rattle.snapshot_text.specs.Shots.{IsShot, comes_next, are_in_order, paths_of}
 use Rattle.snapshot_text.specs.SnapshotTexts.{shots_text}
 use Rattle.snapshot_text.specs.Verdicts.{IsFault, BeginsWithFault}
@@ -133,9 +133,9 @@ module _ (shape : Shape) where
 
   -- a line was refused
   pub line_refused : HasNames shape → (tail : List ℕ) (before : List Shot) (rest line after : List ℕ) (n : ℕ) (e : ShotError) → AreReadTo shape tail before rest → IsSplit 10 rest line after → n ≡ length before + 2 → IsRefusal shape before line n e
-      → (e ≡ error.OutOfMemory the_refusal) ⊎ ((xs : List Shot) × (f : Fault) × StopsWith shape tail xs f × (e ≡ refused f (length xs + 2)))
+      → (e ≡ error.OutOfMemory the_refusal) ⊎ ((xs : List Shot) × (f : Fault) × StopsWith shape tail xs f × (e ≡ error_at f (length xs + 2)))
   line_refused names tail before rest line after n e h p number (inl m) = inl m
-  line_refused names tail before rest line after n e h p number (inr r) = inr (before, r.0, line_stops names tail before rest line after r.0 h p r.1, r.2 ∙ ap (refused r.0) number)
+  line_refused names tail before rest line after n e h p number (inr r) = inr (before, r.0, line_stops names tail before rest line after r.0 h p r.1, r.2 ∙ ap (error_at r.0) number)
 
   -- ---- no line feed stands behind the last line
 

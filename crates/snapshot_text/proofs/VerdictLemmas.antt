@@ -10,7 +10,7 @@ use Rattle.snapshot_text.specs.declared.error.Fault.{Fault}
 use Rattle.snapshot_text.specs.declared.error.Fault.TheVariants as fault
 use Rattle.snapshot_text.specs.declared.error.ShotError.{ShotError}
 use Rattle.snapshot_text.specs.declared.error.ShotError.TheVariants as error
-use Rattle.snapshot_text.specs.Refusals.{refused}
+use Rattle.snapshot_text.specs.Refusals.{error_at}
 use Rattle.snapshot_text.specs.SnapshotTexts.{IsSnapshotText, head_text, shots_text}
 use Rattle.snapshot_text.specs.Verdicts.{IsEmpty, BeginsWithFault, StopsAfter, IsRefused, IsVerdict, IsOnlyVerdict}
 use Rattle.snapshot_text.specs.inner.Tails.{IsParted, IsOnlyParted, StopsWith, AreRead}
@@ -38,14 +38,14 @@ no_fault shape before f (inr h) = h.1 refl
 
 module _ (shape : Shape) (names : HasNames shape) (text : List ℕ) where
   -- a verdict that refuses, by its fault and its line
-  other_errors : (r : Result (List Shot) ShotError) → ((f : Fault) (n : ℕ) → IsRefused shape text f n → ◌≡◌ {A = Result (List Shot) ShotError} (Err (refused f n)) r) → (e : ShotError) → IsVerdict shape text (Err e) → ◌≡◌ {A = Result (List Shot) ShotError} (Err e) r
+  other_errors : (r : Result (List Shot) ShotError) → ((f : Fault) (n : ℕ) → IsRefused shape text f n → ◌≡◌ {A = Result (List Shot) ShotError} (Err (error_at f n)) r) → (e : ShotError) → IsVerdict shape text (Err e) → ◌≡◌ {A = Result (List Shot) ShotError} (Err e) r
   other_errors r h (error.Syntax n) v = h fault.Syntax n v
   other_errors r h (error.Class n) v = h fault.Class n v
   other_errors r h (error.Field n) v = h fault.Field n v
   other_errors r h (error.Order n) v = h fault.Order n v
   other_errors r h (error.OutOfMemory _) v = absurd v
 
-  refused_is : (f : Fault) (n : ℕ) → IsRefused shape text f n → ((other : Result (List Shot) ShotError) → IsVerdict shape text other → other ≡ Err (refused f n)) → IsOnlyVerdict shape text (Err (refused f n))
+  refused_is : (f : Fault) (n : ℕ) → IsRefused shape text f n → ((other : Result (List Shot) ShotError) → IsVerdict shape text other → other ≡ Err (error_at f n)) → IsOnlyVerdict shape text (Err (error_at f n))
   refused_is fault.Syntax n h only = (h, only)
   refused_is fault.Class n h only = (h, only)
   refused_is fault.Field n h only = (h, only)
@@ -59,8 +59,8 @@ module _ (shape : Shape) (names : HasNames shape) (text : List ℕ) where
   pub headless : HasNoHead (codes "snapshot ") text → IsOnlyVerdict shape text (Err (error.Syntax 1))
   headless none = (inl (none, refl, refl), only)
     where
-      refusal : (f : Fault) (n : ℕ) → IsRefused shape text f n → ◌≡◌ {A = Result (List Shot) ShotError} (Err (refused f n)) (Err (error.Syntax 1))
-      refusal f n (inl h) = λ i. Err (refused (h.1 i) (h.2 i))
+      refusal : (f : Fault) (n : ℕ) → IsRefused shape text f n → ◌≡◌ {A = Result (List Shot) ShotError} (Err (error_at f n)) (Err (error.Syntax 1))
+      refusal f n (inl h) = λ i. Err (error_at (h.1 i) (h.2 i))
       refusal f n (inr (inl h)) = absurd (none [] h.0)
       refusal f n (inr (inr h)) = absurd (none (shots_text shape h.0 ++ h.1.rest) h.1.spelled)
 
@@ -88,9 +88,9 @@ module _ (shape : Shape) (names : HasNames shape) (text : List ℕ) where
             let p = stop_parts before f s in
             no_fault shape before f (subst (λ t. BeginsWithFault shape before t f) (sym (no_rest (shots_text shape before) s.rest (sym none ∙ p.spelled))) s.wrong)
 
-        refusal : (f : Fault) (n : ℕ) → IsRefused shape text f n → ◌≡◌ {A = Result (List Shot) ShotError} (Err (refused f n)) (Err (error.Order 1))
+        refusal : (f : Fault) (n : ℕ) → IsRefused shape text f n → ◌≡◌ {A = Result (List Shot) ShotError} (Err (error_at f n)) (Err (error.Order 1))
         refusal f n (inl h) = absurd (h.0 tail b.spelled)
-        refusal f n (inr (inl h)) = λ i. Err (refused (h.1 i) (h.2 i))
+        refusal f n (inr (inl h)) = λ i. Err (error_at (h.1 i) (h.2 i))
         refusal f n (inr (inr h)) = absurd (stopped h.0 f h.1)
 
         only : (other : Result (List Shot) ShotError) → IsVerdict shape text other → other ≡ Err (error.Order 1)
@@ -115,7 +115,7 @@ module _ (shape : Shape) (names : HasNames shape) (text : List ℕ) where
             shots_are = record { some = λ e. some (lines ∙ ap (shots_text shape) e); each = p.parted.each; order = p.parted.order };
           }
 
-          refusal : (f : Fault) (n : ℕ) → IsRefused shape text f n → ◌≡◌ {A = Result (List Shot) ShotError} (Err (refused f n)) (Ok shots)
+          refusal : (f : Fault) (n : ℕ) → IsRefused shape text f n → ◌≡◌ {A = Result (List Shot) ShotError} (Err (error_at f n)) (Ok shots)
           refusal f n (inl h) = absurd (h.0 tail b.spelled)
           refusal f n (inr (inl h)) = absurd (not_empty h.0)
           refusal f n (inr (inr h)) =
@@ -130,7 +130,7 @@ module _ (shape : Shape) (names : HasNames shape) (text : List ℕ) where
 
       -- ---- a line has a fault
 
-      pub some_shots : (before : List Shot) (f : Fault) → StopsWith shape tail before f → IsOnlyVerdict shape text (Err (refused f (length before + 2)))
+      pub some_shots : (before : List Shot) (f : Fault) → StopsWith shape tail before f → IsOnlyVerdict shape text (Err (error_at f (length before + 2)))
       some_shots before f s = refused_is f (length before + 2) (inr (inr (before, stop, refl))) only
         where
           stop : StopsAfter shape text before f
@@ -142,21 +142,21 @@ module _ (shape : Shape) (names : HasNames shape) (text : List ℕ) where
             wrong = s.wrong;
           }
 
-          refusal : (g : Fault) (n : ℕ) → IsRefused shape text g n → ◌≡◌ {A = Result (List Shot) ShotError} (Err (refused g n)) (Err (refused f (length before + 2)))
+          refusal : (g : Fault) (n : ℕ) → IsRefused shape text g n → ◌≡◌ {A = Result (List Shot) ShotError} (Err (error_at g n)) (Err (error_at f (length before + 2)))
           refusal g n (inl h) = absurd (h.0 tail b.spelled)
           refusal g n (inr (inl h)) = absurd (not_empty h.0)
           refusal g n (inr (inr h)) =
               let o = s.parted.only h.0 h.1.rest (stop_parts h.0 g h.1) (inr (g, h.1.wrong)) in
               let same : g ≡ f = s.only g (subst (λ ss. BeginsWithFault shape ss s.rest g) o.0 (subst (λ t. BeginsWithFault shape h.0 t g) o.1 h.1.wrong)) in
               let line : n ≡ length before + 2 = h.2 ∙ ap (λ ss. length ss + 2) o.0 in
-              λ i. Err (refused (same i) (line i))
+              λ i. Err (error_at (same i) (line i))
 
-          only : (other : Result (List Shot) ShotError) → IsVerdict shape text other → other ≡ Err (refused f (length before + 2))
+          only : (other : Result (List Shot) ShotError) → IsVerdict shape text other → other ≡ Err (error_at f (length before + 2))
           only (Ok others) v =
               let parted : IsParted shape tail others [] = record { spelled = sym (snapshot_tail others v) ∙ sym (append-nil (shots_text shape others)); each = v.shots_are.each; order = v.shots_are.order } in
               let o = s.parted.only others [] parted (inl refl) in
               absurd (no_fault shape before f (subst (λ t. BeginsWithFault shape before t f) (sym o.1) s.wrong))
-          only (Err e) v = other_errors (Err (refused f (length before + 2))) refusal e v
+          only (Err e) v = other_errors (Err (error_at f (length before + 2))) refusal e v
 
       pub read_verdict : (r : Result (List Shot) ShotError) → AreRead shape tail r → IsOnlyVerdict shape text r
       read_verdict (Ok shots) h = all_shots shots h

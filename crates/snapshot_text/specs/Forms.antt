@@ -5,7 +5,7 @@ use Rattle.std.specs.Ordering.{nat_cmp}
 use Rattle.std.specs.Cmp.Lexicographic.{slice_cmp}
 use Rattle.std.specs.Char.{is_ascii_digit}
 use Rattle.wave_base.specs.Text.{IsPrintable}
-use Rattle.wave_base.specs.Text.{quoted}
+use Rattle.wave_base.specs.Text.{quoted_text}
 use Rattle.wave_base.specs.Names.{is_word}
 use Rattle.path_text.specs.declared.written.Written.{Written}
 use Rattle.path_text.specs.Steps.{is_step, written_text}
@@ -60,7 +60,7 @@ pairs_text (p ∷ q ∷ ps) = pair_text p ++ 44 ∷ 32 ∷ pairs_text (q ∷ ps)
 abbrev pub literal_text : Literal → List ℕ
 literal_text (Number n) = n
 literal_text (Truth b) = if b then codes "true" else codes "false"
-literal_text (Text t) = quoted t
+literal_text (Text t) = quoted_text t
 literal_text (Map ps) = 123 ∷ (pairs_text ps ++ 125 ∷ [])
 
 -- plain numbers, the keys in ascending order

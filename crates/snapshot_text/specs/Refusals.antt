@@ -5,8 +5,8 @@ use Rattle.snapshot_text.specs.declared.error.Fault.TheVariants as fault
 use Rattle.snapshot_text.specs.declared.error.ShotError.{ShotError}
 use Rattle.snapshot_text.specs.declared.error.ShotError.TheVariants as error
 
-abbrev pub refused : Fault → ℕ → ShotError
-refused fault.Syntax n = error.Syntax n
-refused fault.Class n = error.Class n
-refused fault.Field n = error.Field n
-refused fault.Order n = error.Order n
+abbrev pub error_at : Fault → ℕ → ShotError
+error_at fault.Syntax n = error.Syntax n
+error_at fault.Class n = error.Class n
+error_at fault.Field n = error.Field n
+error_at fault.Order n = error.Order n

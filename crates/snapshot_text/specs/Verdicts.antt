@@ -7,7 +7,7 @@ use Rattle.path_text.specs.declared.written.Written.{Written}
 use Rattle.wave_text.specs.Splits.{HasNone}
 use Rattle.path_text.specs.Paths.{path_of}
 use Rattle.path_text.specs.ShotTexts.{shot_text}
-use Rattle.wave_text.specs.Counted.{counted, HasNoHead}
+use Rattle.wave_text.specs.Counted.{counted_lines, HasNoHead}
 use Rattle.wave_text.specs.Verdicts.{IsOnly}
 use Rattle.snapshot_text.specs.declared.error.Fault.{Fault}
 use Rattle.snapshot_text.specs.declared.error.Fault.TheVariants as fault
@@ -68,7 +68,7 @@ BeginsWithFault shape before rest f =
 -- behind the lines of these shots stands one that has a fault
 pub record StopsAfter (shape : Shape) (text : List ℕ) (before : List Shot) (f : Fault) : Type 0 where
   pub rest : List ℕ
-  pub spelled : text ≡ counted (codes "snapshot ") (shots_text shape before ++ rest)
+  pub spelled : text ≡ counted_lines (codes "snapshot ") (shots_text shape before ++ rest)
   pub each : All (IsShot shape) before
   pub order : are_in_order [] (paths_of before) ≡ true
   pub wrong : BeginsWithFault shape before rest f

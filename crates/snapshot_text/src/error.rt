@@ -1,7 +1,7 @@
 //! Why a text is no snapshot of a service.
 
 ghost use Rattle.std.specs.Prelude.{◌≡◌};
-ghost use Rattle.snapshot_text.specs.Refusals.{refused};
+ghost use Rattle.snapshot_text.specs.Refusals.{error_at};
 
 use thiserror::Error;
 use wave_base::OutOfMemory;
@@ -41,8 +41,8 @@ pub enum ShotError {
 }
 
 /// The error of a fault on a line.
-pub fn refused(fault: Fault, line: u32) -> ShotError
-    ensures { result ≡ refused fault line }
+pub fn error_at(fault: Fault, line: u32) -> ShotError
+    ensures { result ≡ error_at fault line }
 {
     match fault {
         Fault::Syntax => ShotError::Syntax { line },

@@ -8,7 +8,7 @@ ghost use Rattle.snapshot_text.specs.Shots.{are_in_order, paths_of};
 ghost use Rattle.snapshot_text.specs.Verdicts.{IsLineOfNone};
 ghost use Rattle.snapshot_text.specs.inner.Tails.{IsNextLine, IsOnlyFault, IsRefusal};
 
-use crate::error::{Fault, ShotError, refused};
+use crate::error::{Fault, ShotError, error_at};
 use crate::form::form_of;
 use crate::order::comes_next;
 use crate::shot::shot_of;
@@ -47,7 +47,7 @@ pub(crate) fn read_line(
 {
     let Some(shot) = shot_of(alloc, classes, line)? else {
         let fault = fault_of(alloc, classes, line)?;
-        return Err(refused(fault, number));
+        return Err(error_at(fault, number));
     };
     if comes_next(before, &shot.path) {
         Ok(shot)

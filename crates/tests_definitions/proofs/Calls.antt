@@ -10,7 +10,7 @@ use Rattle.wave_base.specs.Tree as t
 use Rattle.wave_base.specs.Tree.{shots}
 use Rattle.value_ops.specs.Operators.{operators, apply_row}
 use Rattle.resolved_service.specs.Jobs.{first_world}
-use Rattle.resolved_service.specs.Meaning.{State, Outcome, Done, Trapped, Left, Returned, Finished, value, called, nowhere}
+use Rattle.resolved_service.specs.Meaning.{State, Outcome, Done, Trapped, Left, Returned, Finished, value, call_act, nowhere}
 use Rattle.resolved_service.specs.View.{Tree, Trees, no_trees, tree, Const, Local, Call, Child, Op}
 use Rattle.resolved_service.specs.World.{World, read_field, set_field, entering}
 use Rattle.tests_definitions.proofs.Market.{at, num, hall, stall, first_tree, methods}
@@ -58,7 +58,7 @@ in_stall = record {
 
 module _ (room : Vec (Unit {0}) Global) where
   abbrev run : ℕ → Path → Tree → State → Shown
-  run depth p e st = shown (value (called (methods room) depth) p e st)
+  run depth p e st = shown (value (call_act (methods room) depth) p e st)
 
   -- what is shown of an event that stays in stall 7, where that many are left, with that many ticks
   abbrev stays : Came → List Value → ℕ → ℕ → Shown
@@ -79,51 +79,51 @@ module _ (room : Vec (Unit {0}) Global) where
 
   -- take(2): 50 - 2 is the value and the field; a tick; and the caller's locals are as they were
   takes : run 9 (stall 1 7) (Call (at 60) 0 (one (Local (at 61) 0))) in_stall ≡ stays (Gave (num 48)) locals 2 48
-  unfolding apply_row operators read_field set_field called
+  unfolding apply_row operators read_field set_field call_act
   takes = refl
 
   -- more(5) calls take(5), and so two ticks are taken: 50 - 5 + 1
   calls_on : run 9 (stall 1 7) (Call (at 60) 1 (one (Local (at 61) 1))) in_stall ≡ stays (Gave (num 46)) locals 1 45
-  unfolding apply_row operators read_field set_field called
+  unfolding apply_row operators read_field set_field call_act
   calls_on = refl
 
   -- what stands behind a `return` is left out, in the method alone: the field is 5, and the value 3
   returns : run 9 (stall 1 7) (Call (at 60) 3 (one (Local (at 61) 1))) in_stall ≡ stays (Gave (num 3)) locals 2 5
-  unfolding apply_row operators read_field set_field called
+  unfolding apply_row operators read_field set_field call_act
   returns = refl
 
   -- `finish` in a method ends the event: nothing is added to it
   finishes : run 9 (stall 1 7) (Op (at 59) 0 (tree (Call (at 60) 4 (one (Local (at 61) 1))) (one (number 62 1)))) in_stall ≡ stays (Ended (Some (num 5))) locals 2 50
-  unfolding apply_row operators read_field set_field called
+  unfolding apply_row operators read_field set_field call_act
   finishes = refl
 
   -- a method's locals behind its parameters begin with their kinds' blanks, whatever the caller's are
   begins_blank : run 9 (stall 1 7) (Call (at 60) 5 (one (Local (at 61) 1))) in_stall ≡ stays (Gave (num 1)) locals 2 50
-  unfolding apply_row operators read_field set_field called
+  unfolding apply_row operators read_field set_field call_act
   begins_blank = refl
 
   -- what has no value is worth nothing
   no_method : run 9 (stall 1 7) (Call (at 60) 99 no_trees) in_stall ≡ stays (Gave (num 0)) locals 2 50
-  unfolding called
+  unfolding call_act
   no_method = refl
 
   -- its arguments come before its tick: where both would trap the argument does, and no tick is taken
   argument_first : run 9 (stall 1 7) (Call (at 60) 0 (one (Op (at 61) 3 (tree (number 61 1) (one (number 62 0)))))) in_stall ≡ stays (Fell trap.DivZero (at 61)) [] 3 50
-  unfolding apply_row operators called
+  unfolding apply_row operators call_act
   argument_first = refl
 
   -- without a tick it traps at the call's place
   no_tick : run 9 (stall 1 7) (Call (at 60) 0 (one (Local (at 61) 0))) (record in_stall { world = record in_stall.world { ticks = 0 } }) ≡ stays (Fell trap.Ticks (at 60)) [] 0 50
-  unfolding called
+  unfolding call_act
   no_tick = refl
 
   -- each call within a call has one tick less to go by: with two this call of a call has its value, with one it has none
   two_deep : (run 2 (stall 1 7) (Call (at 60) 1 (one (Local (at 61) 1))) in_stall).came ≡ Gave (num 46)
-  unfolding apply_row operators read_field set_field called
+  unfolding apply_row operators read_field set_field call_act
   two_deep = refl
 
   one_deep : (run 1 (stall 1 7) (Call (at 60) 1 (one (Local (at 61) 1))) in_stall).came ≡ Fell trap.Ticks nowhere
-  unfolding apply_row operators read_field set_field called
+  unfolding apply_row operators read_field set_field call_act
   one_deep = refl
 
   -- ---- a call of a child's
@@ -140,7 +140,7 @@ module _ (room : Vec (Unit {0}) Global) where
         changes = 5;
         shots = ([], num 0 ∷ []) ∷ (hall 1, num 20 ∷ []) ∷ (stall 1 7, num 49 ∷ []) ∷ (stall 1 8, num 47 ∷ []) ∷ [];
       }
-  unfolding apply_row operators read_field set_field entering called
+  unfolding apply_row operators read_field set_field entering call_act
   both_stalls = refl
 
   -- both(8) goes into stall 8 twice, and enters it once: 49 and 46
@@ -154,7 +154,7 @@ module _ (room : Vec (Unit {0}) Global) where
         changes = 5;
         shots = ([], num 0 ∷ []) ∷ (hall 1, num 20 ∷ []) ∷ (stall 1 8, num 46 ∷ []) ∷ [];
       }
-  unfolding apply_row operators read_field set_field entering called
+  unfolding apply_row operators read_field set_field entering call_act
   one_stall = refl
 
   -- the third call finds no tick: what the second one did stays, and stall 8 is not entered
@@ -168,7 +168,7 @@ module _ (room : Vec (Unit {0}) Global) where
         changes = 3;
         shots = ([], num 0 ∷ []) ∷ (hall 1, num 20 ∷ []) ∷ (stall 1 7, num 49 ∷ []) ∷ [];
       }
-  unfolding apply_row operators read_field set_field entering called
+  unfolding apply_row operators read_field set_field entering call_act
   third_call = refl
 
   abbrev by_zero : ℕ → Tree
@@ -176,18 +176,18 @@ module _ (room : Vec (Unit {0}) Global) where
 
   -- the key comes before the arguments, the arguments before the tick, the tick before the way in
   key_first : (run 9 (hall 1) (Child (at 60) 2 0 (by_zero 61) (one (by_zero 62))) begins).came ≡ Fell trap.DivZero (at 61)
-  unfolding apply_row operators called
+  unfolding apply_row operators call_act
   key_first = refl
 
   then_arguments : (run 9 (hall 1) (Child (at 60) 2 0 (number 61 7) (one (by_zero 62))) (record begins { world = record begins.world { ticks = 0 } })).came ≡ Fell trap.DivZero (at 62)
-  unfolding apply_row operators called
+  unfolding apply_row operators call_act
   then_arguments = refl
 
   then_tick : (run 9 (hall 1) (Child (at 60) 2 0 (number 61 7) (one (number 62 1))) (record begins { world = record begins.world { ticks = 0; entered = replicate 256 [] } })).came ≡ Fell trap.Ticks (at 60)
-  unfolding called
+  unfolding call_act
   then_tick = refl
 
   -- where 256 are entered no other child is, at the call's place; and the tick is taken
   then_way_in : (run 9 (hall 1) (Child (at 60) 2 0 (number 61 7) (one (number 62 1))) (record begins { world = record begins.world { entered = replicate 256 [] } })).came ≡ Fell trap.Reach (at 60)
-  unfolding entering called
+  unfolding entering call_act
   then_way_in = refl

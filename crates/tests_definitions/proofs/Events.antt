@@ -12,7 +12,7 @@ use Rattle.wave_base.specs.Tree as t
 use Rattle.wave_base.specs.Tree.{shots}
 use Rattle.value_ops.specs.Operators.{operators, apply_row}
 use Rattle.resolved_service.specs.Jobs.{first_world, Meant, meant_by, call_meaning, only, move_ran, snapshot_ran}
-use Rattle.resolved_service.specs.Meaning.{Outcome, Done, Trapped, Left, Returned, Finished, called, phases_run, event_run}
+use Rattle.resolved_service.specs.Meaning.{Outcome, Done, Trapped, Left, Returned, Finished, call_act, phases_run, event_run}
 use Rattle.resolved_service.specs.World.{World, read_field, read_above, set_field, entering, sending, spawning}
 use Rattle.tests_definitions.proofs.Market.{at, num, hall, stall, first_tree, service, buy, fall, leave, methods}
 
@@ -38,31 +38,31 @@ module _ (room : Vec (Unit {0}) Global) where
   -- The call at the root enters hall 9 and its stalls 7 and 8; then hall 1, and from there stall 8 of it by a call; and then the stall that the hall's
   -- count, 20 + 4, tells when it is asked. All paths in that order.
   bought_enters : (world_of bought).entered ≡ [] ∷ hall 9 ∷ stall 9 7 ∷ stall 9 8 ∷ hall 1 ∷ stall 1 8 ∷ stall 1 24 ∷ []
-  unfolding apply_row operators read_field read_above set_field entering sending called
+  unfolding apply_row operators read_field read_above set_field entering sending call_act
   bought_enters = refl
 
   -- in the end it holds the last one alone
   bought_holds : (world_of bought).held ≡ stall 1 24 ∷ []
-  unfolding apply_row operators read_field read_above set_field entering sending called
+  unfolding apply_row operators read_field read_above set_field entering sending call_act
   bought_holds = refl
 
   -- its local was 96 and 49 before: the reply is what the last call gave, 50 - 4, and the field of the context where the event is by then
   bought_replies : (meant_by bought).ran.result ≡ record { outcome = out.Reply (num 92); messages = message 24 ∷ []; created = [] }
-  unfolding apply_row operators read_field read_above set_field entering sending called
+  unfolding apply_row operators read_field read_above set_field entering sending call_act
   bought_replies = refl
 
   bought_leaves : shots (meant_by bought).ran.tree ≡ ([], num 1 ∷ []) ∷ (hall 1, num 24 ∷ []) ∷ (stall 1 8, num 49 ∷ []) ∷ (stall 1 24, num 46 ∷ []) ∷ (hall 9, num 20 ∷ []) ∷ (stall 9 7, num 49 ∷ []) ∷ (stall 9 8, num 47 ∷ []) ∷ []
-  unfolding apply_row operators read_field read_above set_field entering sending called
+  unfolding apply_row operators read_field read_above set_field entering sending call_act
   bought_leaves = refl
 
   -- two for each of four calls, and one for each of two downs
   bought_changes : (meant_by bought).changes ≡ 10
-  unfolding apply_row operators read_field read_above set_field entering sending called
+  unfolding apply_row operators read_field read_above set_field entering sending call_act
   bought_changes = refl
 
   -- a tick for each of five calls, and none for a down
   bought_ticks : (world_of bought).ticks ≡ 35
-  unfolding apply_row operators read_field read_above set_field entering sending called
+  unfolding apply_row operators read_field read_above set_field entering sending call_act
   bought_ticks = refl
 
   -- After one down: the root and hall 9 with its stalls are given up, and then stall 8 is held beside the hall that called it. So what a down
@@ -71,15 +71,15 @@ module _ (room : Vec (Unit {0}) Global) where
   first_down = event_run (methods room) 40 (record (buy room) { phases = take 1 (buy room).phases; last = None }) (num 1 ∷ num 4 ∷ []) (record (first_world 0 first_tree) { ticks = 40 })
 
   first_holds : (world_of first_down).held ≡ hall 1 ∷ stall 1 8 ∷ []
-  unfolding apply_row operators read_field read_above set_field entering sending called
+  unfolding apply_row operators read_field read_above set_field entering sending call_act
   first_holds = refl
 
   -- the key of the second down is read at the hall, and its trap would stand there: with count 20 it is stall 20
   abbrev from_hall : ℕ → World → Outcome (Option Value)
-  from_hall n w = phases_run (called (methods room) n) n (drop 1 (buy room).phases) None (hall 1) (record { locals = num 1 ∷ num 4 ∷ num 0 ∷ []; world = w })
+  from_hall n w = phases_run (call_act (methods room) n) n (drop 1 (buy room).phases) None (hall 1) (record { locals = num 1 ∷ num 4 ∷ num 0 ∷ []; world = w })
 
   key_at_hall : (world_of (from_hall 9 (record (first_world 0 first_tree) { ticks = 9; entered = [] ∷ hall 1 ∷ []; held = hall 1 ∷ [] }))).entered ≡ [] ∷ hall 1 ∷ stall 1 20 ∷ []
-  unfolding apply_row operators read_field read_above set_field entering sending called
+  unfolding apply_row operators read_field read_above set_field entering sending call_act
   key_at_hall = refl
 
   -- where 256 are entered it traps where the down stands, and nothing is given up
@@ -87,16 +87,16 @@ module _ (room : Vec (Unit {0}) Global) where
   no_way_down = from_hall 9 (record (first_world 0 first_tree) { ticks = 9; entered = replicate 256 []; held = [] ∷ hall 1 ∷ [] })
 
   traps_at_down : (meant_by no_way_down).ran.result.outcome ≡ out.Trapped (record { kind = trap.Reach; at = at 20 })
-  unfolding read_field entering called
+  unfolding read_field entering call_act
   traps_at_down = refl
 
   holds_as_before : (world_of no_way_down).held ≡ [] ∷ hall 1 ∷ []
-  unfolding read_field entering called
+  unfolding read_field entering call_act
   holds_as_before = refl
 
   -- a context that is held is gone into without being entered again
   into_held : (world_of (from_hall 9 (record (first_world 0 first_tree) { ticks = 9; entered = [] ∷ hall 1 ∷ stall 1 20 ∷ []; held = hall 1 ∷ stall 1 20 ∷ [] }))).entered ≡ [] ∷ hall 1 ∷ stall 1 20 ∷ []
-  unfolding apply_row operators read_field read_above set_field entering sending called
+  unfolding apply_row operators read_field read_above set_field entering sending call_act
   into_held = refl
 
   -- ---- where it traps

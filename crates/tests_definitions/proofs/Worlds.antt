@@ -8,7 +8,7 @@ use Rattle.wave_base.specs.declared.path.Step.{Step}
 use Rattle.wave_base.specs.declared.trap.TrapKind.TheVariants as trap
 use Rattle.wave_base.specs.declared.value.Value.{Value}
 use Rattle.wave_base.specs.declared.value.Value.TheVariants as v
-use Rattle.resolved_service.specs.World.{World, is_true, child, ticking, changed, entering, releasing, sending, spawning, read_field, read_above, set_field}
+use Rattle.resolved_service.specs.World.{World, is_true, child, ticking, after_change, entering, releasing, sending, spawning, read_field, read_above, set_field}
 
 abbrev num : ℕ → Value
 num n = v.Int (pos n)
@@ -73,7 +73,7 @@ no_tick = refl
 
 -- ---- into a context
 
-one_change : changed world ≡ record world { changes = 6 }
+one_change : after_change world ≡ record world { changes = 6 }
 one_change = refl
 
 -- into one that is held: nothing is entered anew, but the place changes

@@ -51,7 +51,7 @@ fn is_enter(mail: Option<&Envelope>, entry: u64) -> bool {
 #[test]
 fn an_admitted_event_enters_the_root(rt: HostRuntime) -> Result<(), Fail> {
     let mut cell = seventh(rt.alloc())?;
-    assert!(rt; cell.outbox.sent() == 1);
+    assert!(rt; cell.outbox.sent_count() == 1);
     let mail = cell.take_mail(1);
     assert!(rt; is_enter(mail.as_ref(), 7));
     assert!(rt; cell.take_mail(1).is_none());
@@ -74,7 +74,7 @@ fn a_go_gives_up_what_is_outside(rt: HostRuntime) -> Result<(), Fail> {
     cell.put_back(6);
     assert!(rt; cell.status == Status::Travelling && cell.actor == Some(6));
     assert!(rt; cell.held.as_slice().len() == 1);
-    assert!(rt; cell.outbox.sent() == 1);
+    assert!(rt; cell.outbox.sent_count() == 1);
     cell.reserve(2)?;
     cell.send(Envelope {
         to: Host(1),
@@ -98,11 +98,11 @@ fn what_is_over_gives_up_all_in_path_order(rt: HostRuntime) -> Result<(), Fail> 
     cell.let_in(root, at(2));
     let mails = cell.held.as_slice().len();
     assert!(rt; mails == 2);
-    assert!(rt; cell.outbox.sent() == 1);
+    assert!(rt; cell.outbox.sent_count() == 1);
     cell.reserve(mails)?;
     cell.end();
     assert!(rt; cell.actor.is_none() && cell.status == Status::Ended);
-    assert!(rt; cell.outbox.sent() == 3);
+    assert!(rt; cell.outbox.sent_count() == 3);
     assert!(rt; is_release(cell.outbox.get(2), 2, root));
     assert!(rt; is_release(cell.outbox.get(3), 1, hall(-3)));
     for number in [2, 1, 3] {
@@ -120,7 +120,7 @@ fn a_context_is_let_go_without_a_release(rt: HostRuntime) -> Result<(), Fail> {
     cell.let_in(hall(-3), at(1));
     cell.let_go(&hall(-3));
     assert!(rt; cell.hold(&hall(-3)).is_none());
-    assert!(rt; cell.outbox.sent() == 1);
+    assert!(rt; cell.outbox.sent_count() == 1);
     if cell.outbox.get(1).is_some() {
         cell.redirect(
             1,

@@ -22,10 +22,10 @@ fn commits_in_the_order_of_tickets(rt: HostRuntime) -> Result<(), Fail> {
     let alloc = rt.alloc();
     let mut commits = Commits::new(alloc, Ticket(7));
     assert!(rt; commits.reserve().is_ok());
-    commits.done(Ticket(8), replied(alloc, 80));
+    commits.add_result(Ticket(8), replied(alloc, 80));
     assert!(rt; commits.ready().is_none());
     assert!(rt; commits.reserve().is_ok());
-    commits.done(Ticket(7), replied(alloc, 70));
+    commits.add_result(Ticket(7), replied(alloc, 70));
     assert!(rt; commits.ready() == Some(&replied(alloc, 70)));
     let first = Committed {
         ticket: Ticket(7),

@@ -35,7 +35,7 @@ fn a_created_call_comes_after_what_is_known(rt: HostRuntime) -> Result<(), Fail>
     let _ = head.admit();
     assert!(rt; head.reserve(1).is_ok());
     let calls = Seq::from_vec(vec![in alloc; call(alloc, 1)]?);
-    assert!(rt; head.created(calls).as_slice() == [Ticket(2)].as_slice());
+    assert!(rt; head.add_created(calls).as_slice() == [Ticket(2)].as_slice());
     assert!(rt; head.next() == Some(Ticket(2)));
     assert!(rt; head.admit() == (Ticket(2), Job::Event(call(alloc, 1))));
     assert!(rt; head.next().is_none());
@@ -48,7 +48,7 @@ fn the_next_batch_comes_when_all_is_done(rt: HostRuntime) -> Result<(), Fail> {
     let mut head = Head::new_at(alloc, two_batches(alloc)?, Ticket(7));
     assert!(rt; head.admit() == (Ticket(7), Job::Event(call(alloc, 0))));
     assert!(rt; head.next().is_none());
-    assert!(rt; head.created(Seq::new(alloc)).is_empty());
+    assert!(rt; head.add_created(Seq::new(alloc)).is_empty());
     assert!(rt; head.batch_done());
     assert!(rt; head.next() == Some(Ticket(8)));
     assert!(rt; head.admit() == (Ticket(8), Job::Snapshot));

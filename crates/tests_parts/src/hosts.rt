@@ -56,11 +56,11 @@ fn what_was_touched_is_told(rt: HostRuntime) -> Result<(), Fail> {
         store.reserve()?;
         store.birth(hall(number), entry(alloc));
     }
-    assert!(rt; store.counted(alloc)?.is_empty());
+    assert!(rt; store.counted_paths(alloc)?.is_empty());
     if store.has(&hall(5)) {
         store.entry_mut(&hall(5)).recount(2, 0);
     }
-    let paths = store.counted(alloc)?;
+    let paths = store.counted_paths(alloc)?;
     assert!(rt; paths.len() == 1);
     for path in &paths {
         assert!(rt; *path == hall(5));

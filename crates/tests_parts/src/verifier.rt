@@ -238,9 +238,9 @@ fn keeps_what_is_read_from_below(rt: HostRuntime) -> Result<(), Fail> {
     let alloc = rt.alloc();
     let verified = verify(alloc, take_and_buy(alloc)?)?;
     assert!(rt; verified.program().shape.classes.len() == 3);
-    assert_eq!(rt; verified.kept(Class(0)).as_slice(), [false].as_slice());
-    assert_eq!(rt; verified.kept(Class(1)).as_slice(), [true].as_slice());
-    assert_eq!(rt; verified.kept(Class(2)).as_slice(), [false].as_slice());
+    assert_eq!(rt; verified.kept_fields(Class(0)).as_slice(), [false].as_slice());
+    assert_eq!(rt; verified.kept_fields(Class(1)).as_slice(), [true].as_slice());
+    assert_eq!(rt; verified.kept_fields(Class(2)).as_slice(), [false].as_slice());
     assert!(rt; !verified.peeks(1));
     Ok(())
 }

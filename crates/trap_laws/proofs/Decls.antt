@@ -16,7 +16,7 @@ use Rattle.mace_grammar.specs.Words as w
 use Rattle.mace_grammar.specs.Words.{Edition, edition_of}
 use Rattle.type_rules.specs.declared.known.Known.{Known}
 use Rattle.type_rules.specs.Exprs.{resolve}
-use Rattle.type_rules.specs.Functions.{event_end, event_start, here_body, here_end, inside, method_body, method_end, method_start, phase_body, phase_end, resolve_event, resolve_last, resolve_phases}
+use Rattle.type_rules.specs.Functions.{event_end, event_start, here_body, here_end, phase_here, method_body, method_end, method_start, phase_body, phase_end, resolve_event, resolve_last, resolve_phases}
 use Rattle.type_rules.specs.Here.{Here}
 use Rattle.type_rules.specs.Known.{known_of, methods_in, methods_of}
 use Rattle.type_rules.specs.Services.{resolve_context, resolve_contexts, resolve_methods, resolve_service}
@@ -79,7 +79,7 @@ module _ (P : Span → Type 0) where
       let q : ExprPlaced P p.key = f.key in (
         f.place,
         if_placed P (resolve h p.key) (steps_traps (phase_body h p)) (phases_of (resolve_phases (phase_end h p) ps))
-            (q.traps h) (stmts_placed P (inside h p) p.body f.body) (phases_placed (phase_end h p) ps fs.1),
+            (q.traps h) (stmts_placed P (phase_here h p) p.body f.body) (phases_placed (phase_end h p) ps fs.1),
       )
 
   here_placed : (h : Here) (o : Option (List StmtTree)) → IfThere (Each (StmtPlaced P)) o → Placed P (steps_traps (resolve_stmts h (option_map_or stmts_of o no_stmts)))

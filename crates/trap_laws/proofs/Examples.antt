@@ -18,7 +18,7 @@ use Rattle.resolved_service.specs.declared.stmt.Stmt.{Stmt}
 use Rattle.resolved_service.specs.Meaning.{nowhere}
 use Rattle.resolved_service.specs.Steps.{SetLocal, SetField, PutLocal, PutField, CutLocal, CutField, If, While, For, Require, Send, Spawn, Do, Return, Finish, Steps, no_steps, step, no_else, otherwise}
 use Rattle.resolved_service.specs.View.{Tree, Const, Local, Field, Above, Op, And, Or, Call, Child, Trees, no_trees, tree}
-use Rattle.trap_laws.specs.Traps.{ComesOf, event_traps, method_traps, of_operators, raised, step_traps, tree_traps}
+use Rattle.trap_laws.specs.Traps.{ComesOf, event_traps, method_traps, of_operators, traps_at, step_traps, tree_traps}
 
 none_not : {X : Type 0} {x : X} → None ≡ Some x → ⊥
 none_not e = cc
@@ -40,7 +40,7 @@ abbrev args : Tree → Trees
 args t = tree t no_trees
 
 abbrev here : ℕ → List TrapKind → List Trap
-here c kinds = raised (at c) kinds
+here c kinds = traps_at (at c) kinds
 
 abbrev op : ℕ → List Trap
 op c = here c of_operators

@@ -19,7 +19,7 @@ use Rattle.mace_grammar.specs.Words as w
 use Rattle.mace_grammar.specs.Words.{Edition}
 use Rattle.resolved_service.specs.View.{no_trees, tree}
 use Rattle.type_rules.specs.Exprs.{above_tree, kind_of, read_tree, resolve, resolve_all}
-use Rattle.type_rules.specs.Here.{called, variable}
+use Rattle.type_rules.specs.Here.{callee_named, variable}
 use Rattle.trap_laws.specs.Traps.{tree_traps, trees_traps}
 use Rattle.trap_laws.proofs.Words.{Stands, name}
 use Rattle.trap_laws.proofs.Placed.{ExprPlaced, and_then, args_placed, binary_placed, both_placed, called_placed, operated, read_placed}
@@ -49,7 +49,7 @@ module _ (P : Span → Type 0) where
   }
 
   call_is : (f : Name) (args : List ExprTree) → P f.at → Each IsPlaced args → IsPlaced (e.Call f.at f.text (exprs_of args))
-  call_is f args p ps = record { place = p; traps = λ h. called_placed P f.at (called h f.text) (resolve_all h (exprs_of args)) p (args_placed P h args ps) }
+  call_is f args p ps = record { place = p; traps = λ h. called_placed P f.at (callee_named h f.text) (resolve_all h (exprs_of args)) p (args_placed P h args ps) }
 
   child_call_is : (c f : Name) (key : ExprTree) (args : List ExprTree) → P c.at → IsPlaced key → Each IsPlaced args → IsPlaced (e.ChildCall c.at c.text key f.text (exprs_of args))
   child_call_is c f key args p q ps = record {

@@ -18,7 +18,7 @@ use Rattle.type_rules.specs.declared.meant.Variable.TheVariants as var
 use Rattle.type_rules.specs.Exprs.{resolve, resolve_all, read_tree, two, call_tree, binary_tree}
 use Rattle.type_rules.specs.Here.{Here}
 use Rattle.type_rules.specs.Stmts.{after, cut_step, set_step, resolve_else, resolve_stmt, resolve_stmts}
-use Rattle.trap_laws.specs.Traps.{of_operators, raised, tree_traps, trees_traps, maybe_traps, step_traps, steps_traps, else_traps}
+use Rattle.trap_laws.specs.Traps.{of_operators, traps_at, tree_traps, trees_traps, maybe_traps, step_traps, steps_traps, else_traps}
 use Rattle.mace_grammar.proofs.Parts.{Each, IfThere, each_append}
 
 module _ (P : Span → Type 0) where
@@ -28,12 +28,12 @@ module _ (P : Span → Type 0) where
   pub and_then : (xs ys : List Trap) → Placed xs → Placed ys → Placed (xs ++ ys)
   and_then xs ys h g = each_append (λ (t : Trap). P t.at) xs ys h g
 
-  raised_at : (at : Span) (kinds : List TrapKind) → P at → Placed (raised at kinds)
+  raised_at : (at : Span) (kinds : List TrapKind) → P at → Placed (traps_at at kinds)
   raised_at at [] h = tt
   raised_at at (kind ∷ kinds) h = (h, raised_at at kinds h)
 
-  pub operated : (at : Span) (more : List Trap) → P at → Placed more → Placed (raised at of_operators ++ more)
-  operated at more h g = and_then (raised at of_operators) more (raised_at at of_operators h) g
+  pub operated : (at : Span) (more : List Trap) → P at → Placed more → Placed (traps_at at of_operators ++ more)
+  operated at more h g = and_then (traps_at at of_operators) more (raised_at at of_operators h) g
 
   -- ---- expressions: where it stands, and what can trap of it, wherever its names are resolved
 
@@ -85,7 +85,7 @@ module _ (P : Span → Type 0) where
   cut_placed at (Some (var.Field field kind)) key h g = operated at (tree_traps key) h g
   cut_placed at None key h g = operated at (tree_traps key) h g
 
-  put_placed : (at : Span) (key value : Tree) → P at → Placed (tree_traps key) → Placed (tree_traps value) → Placed (raised at of_operators ++ tree_traps key ++ tree_traps value)
+  put_placed : (at : Span) (key value : Tree) → P at → Placed (tree_traps key) → Placed (tree_traps value) → Placed (traps_at at of_operators ++ tree_traps key ++ tree_traps value)
   put_placed at key value h f g = operated at (tree_traps key ++ tree_traps value) h (and_then (tree_traps key) (tree_traps value) f g)
 
   pub set_placed : (h : Here) (at : Span) (v : Option Variable) (key : Option ExprTree) (value : Tree) → P at → IfThere ExprPlaced key → Placed (tree_traps value) → Placed (step_traps (set_step at v (option_map (resolve h) key) value))
@@ -99,5 +99,5 @@ module _ (P : Span → Type 0) where
   pub if_placed : (test : Tree) (body other : List Trap) → Placed (tree_traps test) → Placed body → Placed other → Placed (tree_traps test ++ body ++ other)
   if_placed test body other f g h = and_then (tree_traps test ++ body) other (and_then (tree_traps test) body f g) h
 
-  pub for_placed : (at : Span) (low high : Tree) (body : List Trap) → P at → Placed (tree_traps low) → Placed (tree_traps high) → Placed body → Placed (raised at (k.Ticks ∷ of_operators) ++ tree_traps low ++ tree_traps high ++ body)
+  pub for_placed : (at : Span) (low high : Tree) (body : List Trap) → P at → Placed (tree_traps low) → Placed (tree_traps high) → Placed body → Placed (traps_at at (k.Ticks ∷ of_operators) ++ tree_traps low ++ tree_traps high ++ body)
   for_placed at low high body p f g h = (p, operated at (tree_traps low ++ tree_traps high ++ body) p (if_placed low (tree_traps high) body f g h))

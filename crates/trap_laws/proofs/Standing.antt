@@ -14,11 +14,11 @@ use Rattle.resolved_service.specs.declared.service.Event.{Event}
 use Rattle.resolved_service.specs.declared.service.Last.{Last}
 use Rattle.resolved_service.specs.declared.service.Method.{Method}
 use Rattle.resolved_service.specs.declared.service.Phase.{Phase}
-use Rattle.resolved_service.specs.Meaning.{State, Returned, Finished, Outcome, Done, Trapped, Left, Act, and_then, ◌>>=◌, ◌>>◌, give, answer, with_world, tick, enter_at, choose, set_local, put_field, demand, row_add, row_lt, row_put, row_cut, worth, value, values, while_turns, for_test, for_body, maybe_value, effect, effects, else_effect, last_value, with_locals, with_blanks, run_method, called, phases_run, event_run}
+use Rattle.resolved_service.specs.Meaning.{State, Returned, Finished, Outcome, Done, Trapped, Left, Act, and_then, ◌>>=◌, ◌>>◌, give, answer, with_world, tick, enter_at, choose, set_local, put_field, demand, row_add, row_lt, row_put, row_cut, worth, value, values, while_turns, for_test, for_body, maybe_value, effect, effects, else_effect, last_value, with_locals, with_blanks, run_method, call_act, phases_run, event_run}
 use Rattle.resolved_service.specs.Steps.{Step, SetLocal, SetField, PutLocal, PutField, CutLocal, CutField, If, While, For, Require, Send, Spawn, Do, Return, Finish, Steps, no_steps, step, Else, no_else, otherwise, steps_in}
 use Rattle.resolved_service.specs.View.{Tree, Const, Local, Field, Above, Op, And, Or, Call, Child, Trees, no_trees, tree, tree_of}
-use Rattle.resolved_service.specs.World.{World, nothing, is_true, child, took, changed, with_entered, has, entering, sending, spawning, read_field, set_field}
-use Rattle.trap_laws.specs.Traps.{of_operators, raised, tree_traps, trees_traps, maybe_traps, step_traps, steps_traps, else_traps, last_traps, method_traps, phases_traps, event_traps}
+use Rattle.resolved_service.specs.World.{World, nothing, is_true, child, after_tick, after_change, with_entered, has, entering, sending, spawning, read_field, set_field}
+use Rattle.trap_laws.specs.Traps.{of_operators, traps_at, tree_traps, trees_traps, maybe_traps, step_traps, steps_traps, else_traps, last_traps, method_traps, phases_traps, event_traps}
 use Rattle.trap_laws.proofs.Rows.{is_operators, IsOperators, row_raises}
 
 module _ (P : Trap → Type 0) where
@@ -49,7 +49,7 @@ module _ (P : Trap → Type 0) where
   abbrev Ops : Span → Type 0
   Ops at = (kind : TrapKind) → is_operators kind ≡ true → At kind at
 
-  ops : (at : Span) (rest : List Trap) → Each (raised at of_operators ++ rest) → Ops at
+  ops : (at : Span) (rest : List Trap) → Each (traps_at at of_operators ++ rest) → Ops at
   ops at rest e trap.Overflow i = e.0
   ops at rest e trap.DivZero i = e.1.0
   ops at rest e trap.Absent i = e.1.1.0
@@ -89,9 +89,9 @@ module _ (P : Trap → Type 0) where
   enter_good : (j : ℕ) (q : Path) (at : Span) → At trap.Reach at → Safe j (enter_at q at)
   unfolding entering
   enter_good j q at e st h =
-      elim (has st.world.held q) as (λ b. Good j (with_world (if b then Ok (changed st.world) else (if nat_lt (length st.world.entered) CONTEXTS then Ok (changed (with_entered q st.world)) else Err trap.Reach)) at st)) [
+      elim (has st.world.held q) as (λ b. Good j (with_world (if b then Ok (after_change st.world) else (if nat_lt (length st.world.entered) CONTEXTS then Ok (after_change (with_entered q st.world)) else Err trap.Reach)) at st)) [
         | true ↦ h
-        | false ↦ elim (nat_lt (length st.world.entered) CONTEXTS) as (λ b. Good j (with_world (if b then Ok (changed (with_entered q st.world)) else Err trap.Reach) at st)) [ true ↦ h | false ↦ e ]
+        | false ↦ elim (nat_lt (length st.world.entered) CONTEXTS) as (λ b. Good j (with_world (if b then Ok (after_change (with_entered q st.world)) else Err trap.Reach) at st)) [ true ↦ h | false ↦ e ]
       ]
 
   send_good : (j : ℕ) (label : List ℕ) (x : Value) (at : Span) → At trap.Sends at → Safe j (λ st. with_world (sending label x st.world) at st)
@@ -112,7 +112,7 @@ module _ (P : Trap → Type 0) where
   demand_good j false at e st h = e
 
   -- behind a tick fewer ticks are left
-  took_good : {B : Type 0} (n j : ℕ) (st : State) (at : Span) → At trap.Ticks at → (f : Unit {0} → Act B) → n ≤ j → ((i : ℕ) → suc i ≤ j → Safe i (f tt)) → Good j (and_then (with_world (took n st.world) at st) f)
+  took_good : {B : Type 0} (n j : ℕ) (st : State) (at : Span) → At trap.Ticks at → (f : Unit {0} → Act B) → n ≤ j → ((i : ℕ) → suc i ≤ j → Safe i (f tt)) → Good j (and_then (with_world (after_tick n st.world) at st) f)
   took_good zero j st at e f l h = e
   took_good (suc n) j st at e f l h =
       let after : State = record { locals = st.locals; world = record st.world { ticks = n } } in
@@ -121,7 +121,7 @@ module _ (P : Trap → Type 0) where
   tick_good : {B : Type 0} (j : ℕ) (at : Span) → At trap.Ticks at → (f : Unit {0} → Act B) → ((i : ℕ) → suc i ≤ j → Safe i (f tt)) → Safe j (tick at >>= f)
   tick_good j at e f h st l = took_good st.world.ticks j st at e f l h
 
-  took_self : (n j : ℕ) (st : State) (at : Span) → At trap.Ticks at → n ≤ j → Good j (with_world (took n st.world) at st)
+  took_self : (n j : ℕ) (st : State) (at : Span) → At trap.Ticks at → n ≤ j → Good j (with_world (after_tick n st.world) at st)
   took_self zero j st at e l = e
   took_self (suc n) j st at e l = omega arith
 
@@ -156,7 +156,7 @@ module _ (P : Trap → Type 0) where
         value_good (Local at slot) e j l st h = h
         value_good (Field at f) e j l st h = h
         value_good (Above at level f) e j l st h = h
-        value_good (Op at row ts) e j l st h = then_good j (values call p ts st) _ (values_good ts (right (raised at of_operators) (trees_traps ts) e) j l st h)
+        value_good (Op at row ts) e j l st h = then_good j (values call p ts st) _ (values_good ts (right (traps_at at of_operators) (trees_traps ts) e) j l st h)
             (λ xs. answer_good j (apply_row row xs) at (row_raises row xs) (ops at (trees_traps ts) e))
         value_good (And at a b) e j l st h =
             then_good j (value call p a st) _ (value_good a (left (tree_traps a) (tree_traps b) e) j l st h)
@@ -194,20 +194,20 @@ module _ (P : Trap → Type 0) where
           effect_good (SetLocal at slot t) e j l st h = then_good j (value call p t st) _ (value_good t e j l st h) (λ v st h. h)
           effect_good (SetField at f t) e j l st h = then_good j (value call p t st) _ (value_good t e j l st h) (λ v st h. h)
           effect_good (PutLocal at slot key t) e j l st h =
-              let both = right (raised at of_operators) (tree_traps key ++ tree_traps t) e in
+              let both = right (traps_at at of_operators) (tree_traps key ++ tree_traps t) e in
               then_good j (value call p key st) _ (value_good key (left (tree_traps key) (tree_traps t) both) j l st h)
               (λ x st h. then_good j (value call p t st) _ (value_good t (right (tree_traps key) (tree_traps t) both) j l st h)
               (λ y st h. answered j row_put (get_or st.locals slot nothing ∷ x ∷ y ∷ []) at (ops at (tree_traps key ++ tree_traps t) e) (set_local slot) (λ v st h. h) st h))
           effect_good (PutField at f key t) e j l st h =
-              let both = right (raised at of_operators) (tree_traps key ++ tree_traps t) e in
+              let both = right (traps_at at of_operators) (tree_traps key ++ tree_traps t) e in
               then_good j (value call p key st) _ (value_good key (left (tree_traps key) (tree_traps t) both) j l st h)
               (λ x st h. then_good j (value call p t st) _ (value_good t (right (tree_traps key) (tree_traps t) both) j l st h)
               (λ y st h. answered j row_put (read_field f p st.world ∷ x ∷ y ∷ []) at (ops at (tree_traps key ++ tree_traps t) e) (put_field f p) (λ v st h. h) st h))
           effect_good (CutLocal at slot key) e j l st h =
-              then_good j (value call p key st) _ (value_good key (right (raised at of_operators) (tree_traps key) e) j l st h)
+              then_good j (value call p key st) _ (value_good key (right (traps_at at of_operators) (tree_traps key) e) j l st h)
               (λ x st h. answered j row_cut (get_or st.locals slot nothing ∷ x ∷ []) at (ops at (tree_traps key) e) (set_local slot) (λ v st h. h) st h)
           effect_good (CutField at f key) e j l st h =
-              then_good j (value call p key st) _ (value_good key (right (raised at of_operators) (tree_traps key) e) j l st h)
+              then_good j (value call p key st) _ (value_good key (right (traps_at at of_operators) (tree_traps key) e) j l st h)
               (λ x st h. answered j row_cut (read_field f p st.world ∷ x ∷ []) at (ops at (tree_traps key) e) (put_field f p) (λ v st h. h) st h)
           effect_good (If at test body other) e j l st h =
               let first = left (tree_traps test ++ steps_traps body) (else_traps other) e in
@@ -217,7 +217,7 @@ module _ (P : Trap → Type 0) where
               while_good n j (value call p test) (effects call n p body) at e.0
               (λ i f. value_good test (left (tree_traps test) (steps_traps body) e.1) i (omega arith)) (λ i f. effects_good body (right (tree_traps test) (steps_traps body) e.1) i (omega arith)) st h
           effect_good (For at counter from to body) e j l st h =
-              let rest = right (raised at of_operators) (tree_traps from ++ tree_traps to ++ steps_traps body) e.1 in
+              let rest = right (traps_at at of_operators) (tree_traps from ++ tree_traps to ++ steps_traps body) e.1 in
               let bounds = left (tree_traps from ++ tree_traps to) (steps_traps body) rest in
               let counts = ops at (tree_traps from ++ tree_traps to ++ steps_traps body) e.1 in
               then_good j (value call p from st) _ (value_good from (left (tree_traps from) (tree_traps to) bounds) j l st h)
@@ -272,19 +272,19 @@ module _ (P : Trap → Type 0) where
   -- ---- calls and events
 
   module _ (methods : List Method) (places : (k : ℕ) (m : Method) → slice_get methods k ≡ Some m → Each (method_traps m)) where
-    called_good : (n j : ℕ) → suc j ≤ n → (m : ℕ) (q : Path) (given : List Value) → Safe j (called methods n m q given)
-    unfolding called
+    called_good : (n j : ℕ) → suc j ≤ n → (m : ℕ) (q : Path) (given : List Value) → Safe j (call_act methods n m q given)
+    unfolding call_act
     called_good zero j l m q given = absurd (omega arith)
     called_good (suc n) j l m q given =
-        method_good (called methods n) j (λ m q given i e. called_good n i (omega arith) m q given) n (slice_get methods m) (places m) q given j (omega arith)
+        method_good (call_act methods n) j (λ m q given i e. called_good n i (omega arith) m q given) n (slice_get methods m) (places m) q given j (omega arith)
 
     pub event_good : (n : ℕ) (e : Event) (given : List Value) (w : World) → w.ticks ≤ n → Each (event_traps e) → Good w.ticks (event_run methods n e given w)
     event_good n e given w l h =
         let j = w.ticks in
-        let calls : (m : ℕ) (q : Path) (given : List Value) (i : ℕ) → suc i ≤ j → Safe i (called methods n m q given) = λ m q given i f. called_good n i (omega arith) m q given in
+        let calls : (m : ℕ) (q : Path) (given : List Value) (i : ℕ) → suc i ≤ j → Safe i (call_act methods n m q given) = λ m q given i f. called_good n i (omega arith) m q given in
         let here = steps_traps (steps_in e.here) in
         let phases = phases_traps e.phases in
         let first = left (here ++ phases) (last_traps e.last) h in
-        then_good j (effects (called methods n) n [] (steps_in e.here) (record { locals = with_blanks given e.locals; world = w })) _
-        (effects_good (called methods n) j calls [] n (steps_in e.here) (left here phases first) j (omega arith) _ (omega arith))
-        (λ u. phases_good (called methods n) j calls n e.phases e.last (right here phases first) (right (here ++ phases) (last_traps e.last) h) [] j (omega arith))
+        then_good j (effects (call_act methods n) n [] (steps_in e.here) (record { locals = with_blanks given e.locals; world = w })) _
+        (effects_good (call_act methods n) j calls [] n (steps_in e.here) (left here phases first) j (omega arith) _ (omega arith))
+        (λ u. phases_good (call_act methods n) j calls n e.phases e.last (right here phases first) (right (here ++ phases) (last_traps e.last) h) [] j (omega arith))

@@ -14,7 +14,7 @@ use Rattle.mace_grammar.specs.Part.{Part, maybe}
 use Rattle.mace_grammar.specs.Words as w
 use Rattle.mace_grammar.specs.Words.{Edition}
 use Rattle.type_rules.specs.Exprs.{resolve, resolve_all}
-use Rattle.type_rules.specs.Here.{behind, called, counted}
+use Rattle.type_rules.specs.Here.{behind, callee_named, with_counter}
 use Rattle.type_rules.specs.Stmts.{after_all, resolve_else, resolve_stmts, target_variable}
 use Rattle.trap_laws.specs.Traps.{else_traps, steps_traps, tree_traps, trees_traps}
 use Rattle.trap_laws.proofs.Exprs.{any_arguments, any_expr, any_key}
@@ -49,7 +49,7 @@ module _ (P : Span → Type 0) where
   set_is at x place value p f v = record { traps = λ h. set_placed P h at (target_variable h x) place (resolve h value) p f (v.traps h) }
 
   call_is : (f : Name) (args : List ExprTree) → P f.at → Each IsExpr args → IsPlaced (st.Call f.at f.text args)
-  call_is f args p fs = record { traps = λ h. called_placed P f.at (called h f.text) (resolve_all h (exprs_of args)) p (args_placed P h args fs) }
+  call_is f args p fs = record { traps = λ h. called_placed P f.at (callee_named h f.text) (resolve_all h (exprs_of args)) p (args_placed P h args fs) }
 
   child_call_is : (c f : Name) (place : ExprTree) (args : List ExprTree) → P c.at → IsExpr place → Each IsExpr args → IsPlaced (st.ChildCall c.at c.text place f.text args)
   child_call_is c f place args p q fs = record {
@@ -73,7 +73,7 @@ module _ (P : Span → Type 0) where
 
   for_is : (at : Span) (n : Name) (low high : ExprTree) (body : List StmtTree) → P at → IsExpr low → IsExpr high → Each IsPlaced body → IsPlaced (st.For at n low high (stmts_of body))
   for_is at n low high body p f f' b = record {
-    traps = λ h. for_placed P at (resolve h low) (resolve h high) (steps_traps (resolve_stmts (counted h n.text) (stmts_of body))) p (f.traps h) (f'.traps h) (stmts_placed P (counted h n.text) body b);
+    traps = λ h. for_placed P at (resolve h low) (resolve h high) (steps_traps (resolve_stmts (with_counter h n.text) (stmts_of body))) p (f.traps h) (f'.traps h) (stmts_placed P (with_counter h n.text) body b);
   }
 
   -- ---- productions

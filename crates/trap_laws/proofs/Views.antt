@@ -14,7 +14,7 @@ use Rattle.resolved_service.specs.declared.service.Resolved.{Resolved}
 use Rattle.type_rules.specs.Functions.{LastView, MethodView, PhaseView, EventView}
 use Rattle.type_rules.specs.Services.{ResolvedView}
 use Rattle.type_rules.specs.Views.{last_view, method_view, phase_view, event_view, resolved_view}
-use Rattle.trap_laws.specs.Traps.{ComesOf, event_traps, last_traps, method_traps, phases_traps, raised, steps_traps, tree_traps}
+use Rattle.trap_laws.specs.Traps.{ComesOf, event_traps, last_traps, method_traps, phases_traps, traps_at, steps_traps, tree_traps}
 use Rattle.mace_grammar.proofs.Parts.{Each, none_not, some_same}
 use Rattle.trap_laws.proofs.Placed.{Placed}
 
@@ -27,7 +27,7 @@ method_of m = steps_traps m.body ++ last_of m.last
 
 abbrev pub phases_of : List PhaseView → List Trap
 phases_of [] = []
-phases_of (f ∷ fs) = raised f.at (k.Reach ∷ []) ++ tree_traps f.key ++ steps_traps f.body ++ phases_of fs
+phases_of (f ∷ fs) = traps_at f.at (k.Reach ∷ []) ++ tree_traps f.key ++ steps_traps f.body ++ phases_of fs
 
 abbrev pub event_of : EventView → List Trap
 event_of e = steps_traps e.here ++ phases_of e.phases ++ last_of e.last
@@ -39,7 +39,7 @@ last_same (Some l) = refl
 
 phases_same : (fs : List Phase) → phases_of (map phase_view fs) ≡ phases_traps fs
 phases_same [] = refl
-phases_same (f ∷ fs) = ap (λ ts. raised f.at (k.Reach ∷ []) ++ tree_traps (phase_view f).key ++ steps_traps (phase_view f).body ++ ts) (phases_same fs)
+phases_same (f ∷ fs) = ap (λ ts. traps_at f.at (k.Reach ∷ []) ++ tree_traps (phase_view f).key ++ steps_traps (phase_view f).body ++ ts) (phases_same fs)
 
 method_same : (m : Method) → method_of (method_view m) ≡ method_traps m
 method_same m = ap (λ ts. steps_traps (method_view m).body ++ ts) (last_same m.last)

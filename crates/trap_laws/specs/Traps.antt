@@ -24,8 +24,8 @@ abbrev pub of_operators : List TrapKind
 of_operators = k.Overflow ∷ k.DivZero ∷ k.Absent ∷ k.Full ∷ k.TooLong ∷ []
 
 -- traps of these kinds at one place
-abbrev pub raised : Span → List TrapKind → List Trap
-raised at kinds = map (λ kind. record { kind = kind; at = at }) kinds
+abbrev pub traps_at : Span → List TrapKind → List Trap
+traps_at at kinds = map (λ kind. record { kind = kind; at = at }) kinds
 
 abbrev mutual
   pub tree_traps : Tree → List Trap
@@ -33,11 +33,11 @@ abbrev mutual
   tree_traps (Local at slot) = []
   tree_traps (Field at f) = []
   tree_traps (Above at level f) = []
-  tree_traps (Op at row args) = raised at of_operators ++ trees_traps args
+  tree_traps (Op at row args) = traps_at at of_operators ++ trees_traps args
   tree_traps (And at left right) = tree_traps left ++ tree_traps right
   tree_traps (Or at left right) = tree_traps left ++ tree_traps right
-  tree_traps (CallOwn at method args) = raised at (k.Ticks ∷ []) ++ trees_traps args
-  tree_traps (Child at class method key args) = raised at (k.Ticks ∷ k.Reach ∷ []) ++ tree_traps key ++ trees_traps args
+  tree_traps (CallOwn at method args) = traps_at at (k.Ticks ∷ []) ++ trees_traps args
+  tree_traps (Child at class method key args) = traps_at at (k.Ticks ∷ k.Reach ∷ []) ++ tree_traps key ++ trees_traps args
 
   pub trees_traps : Trees → List Trap
   trees_traps no_trees = []
@@ -51,16 +51,16 @@ abbrev mutual
   pub step_traps : Step → List Trap
   step_traps (SetLocal at slot e) = tree_traps e
   step_traps (SetField at f e) = tree_traps e
-  step_traps (PutLocal at slot key e) = raised at of_operators ++ tree_traps key ++ tree_traps e
-  step_traps (PutField at f key e) = raised at of_operators ++ tree_traps key ++ tree_traps e
-  step_traps (CutLocal at slot key) = raised at of_operators ++ tree_traps key
-  step_traps (CutField at f key) = raised at of_operators ++ tree_traps key
+  step_traps (PutLocal at slot key e) = traps_at at of_operators ++ tree_traps key ++ tree_traps e
+  step_traps (PutField at f key e) = traps_at at of_operators ++ tree_traps key ++ tree_traps e
+  step_traps (CutLocal at slot key) = traps_at at of_operators ++ tree_traps key
+  step_traps (CutField at f key) = traps_at at of_operators ++ tree_traps key
   step_traps (If at test body other) = tree_traps test ++ steps_traps body ++ else_traps other
-  step_traps (While at test body) = raised at (k.Ticks ∷ []) ++ tree_traps test ++ steps_traps body
-  step_traps (For at counter from to body) = raised at (k.Ticks ∷ of_operators) ++ tree_traps from ++ tree_traps to ++ steps_traps body
-  step_traps (Require at test) = raised at (k.Require ∷ []) ++ tree_traps test
-  step_traps (Send at label e) = raised at (k.Sends ∷ []) ++ tree_traps e
-  step_traps (Spawn at event args) = raised at (k.Generation ∷ k.Spawns ∷ []) ++ trees_traps args
+  step_traps (While at test body) = traps_at at (k.Ticks ∷ []) ++ tree_traps test ++ steps_traps body
+  step_traps (For at counter from to body) = traps_at at (k.Ticks ∷ of_operators) ++ tree_traps from ++ tree_traps to ++ steps_traps body
+  step_traps (Require at test) = traps_at at (k.Require ∷ []) ++ tree_traps test
+  step_traps (Send at label e) = traps_at at (k.Sends ∷ []) ++ tree_traps e
+  step_traps (Spawn at event args) = traps_at at (k.Generation ∷ k.Spawns ∷ []) ++ trees_traps args
   step_traps (Do at e) = tree_traps e
   step_traps (Return at e) = maybe_traps e
   step_traps (Finish at e) = maybe_traps e
@@ -82,7 +82,7 @@ method_traps m = steps_traps (steps_in m.body) ++ last_traps m.last
 
 abbrev pub phases_traps : List Phase → List Trap
 phases_traps [] = []
-phases_traps (f ∷ fs) = raised f.at (k.Reach ∷ []) ++ tree_traps (tree_of f.key) ++ steps_traps (steps_in f.body) ++ phases_traps fs
+phases_traps (f ∷ fs) = traps_at f.at (k.Reach ∷ []) ++ tree_traps (tree_of f.key) ++ steps_traps (steps_in f.body) ++ phases_traps fs
 
 abbrev pub event_traps : Event → List Trap
 event_traps e = steps_traps (steps_in e.here) ++ phases_traps e.phases ++ last_traps e.last

@@ -24,10 +24,10 @@ use Rattle.type_rules.specs.declared.error.TypeError.TheVariants.{UnknownName, M
 use Rattle.type_rules.specs.Demands.{ask, first_wrong}
 use Rattle.type_rules.specs.Known.{class_named, signature, signature_at, no_signature, methods_of, methods_in, service_methods, shape_of, known_of}
 use Rattle.mace_ast.specs.Counts.{class_count}
-use Rattle.type_rules.specs.Here.{Here, OfMethod, OfEvent, start, declared, is_child}
+use Rattle.type_rules.specs.Here.{Here, OfMethod, OfEvent, start, with_local, is_child}
 use Rattle.type_rules.specs.Exprs.{or_zero, class_asks, demands_as}
 use Rattle.type_rules.specs.Stmts.{stmts_demands, reach_asks}
-use Rattle.type_rules.specs.Functions.{LastView, MethodView, PhaseView, EventView, after_params, method_params_demands, event_params_demands, last_demands, resolve_last, method_start, method_end, method_body, method_demands, resolve_method, event_start, here_stmts, here_end, here_body, event_ended, phase_body, inside, phase_end, event_end, phase_demands, phases_demands, event_demands, resolve_phase, resolve_phases, resolve_event}
+use Rattle.type_rules.specs.Functions.{LastView, MethodView, PhaseView, EventView, after_params, method_params_demands, event_params_demands, last_demands, resolve_last, method_start, method_end, method_body, method_demands, resolve_method, event_start, here_stmts, here_end, here_body, event_ended, phase_body, phase_here, phase_end, event_end, phase_demands, phases_demands, event_demands, resolve_phase, resolve_phases, resolve_event}
 use Rattle.type_rules.specs.Services.{ResolvedView, name_asks, fields_demands, methods_demands, context_demands, contexts_demands, events_demands, resolve_methods, resolve_context, resolve_contexts, resolve_with, resolve_service, IsTyped}
 use Rattle.type_rules.specs.Views.{last_view, method_view, phase_view, event_view, resolved_view}
 use Rattle.type_rules.proofs.First.{first_wrong_parts}
@@ -99,7 +99,7 @@ module _ (known : Known) (methods : List Method) (there : There known methods) w
 
     params_at : (h : Here) → At known class h → (ps : List Param) → At known class (after_params h ps)
     params_at h at [] = at
-    params_at h at (p ∷ ps) = params_at (declared h p.name.text p.kind) (record { same_known = at.same_known; same_class = at.same_class }) ps
+    params_at h at (p ∷ ps) = params_at (with_local h p.name.text p.kind) (record { same_known = at.same_known; same_class = at.same_class }) ps
 
   -- ---- methods
 
@@ -182,18 +182,18 @@ module _ (known : Known) (methods : List Method) (there : There known methods) w
   phases_fit class h at ended past (p ∷ ps) name kind last (f ∷ fs) l e is d g =
       let on = surely_ends (phase_body h p) in
       let a = first_wrong_parts (phase_demands h ended p) (phases_demands (phase_end h p) on ps) d in
-      let asked = class_asks h p.at p.class ++ (demands_as h k.Int p.key ++ stmts_demands (inside h p) (stmts_of p.body)) in
-      let b = first_wrong_parts (class_asks h p.at p.class) (demands_as h k.Int p.key ++ stmts_demands (inside h p) (stmts_of p.body)) (first_wrong_parts (reach_asks ended p.at) asked a.0).1 in
-      let c = first_wrong_parts (demands_as h k.Int p.key) (stmts_demands (inside h p) (stmts_of p.body)) b.1 in
+      let asked = class_asks h p.at p.class ++ (demands_as h k.Int p.key ++ stmts_demands (phase_here h p) (stmts_of p.body)) in
+      let b = first_wrong_parts (class_asks h p.at p.class) (demands_as h k.Int p.key ++ stmts_demands (phase_here h p) (stmts_of p.body)) (first_wrong_parts (reach_asks ended p.at) asked a.0).1 in
+      let c = first_wrong_parts (demands_as h k.Int p.key) (stmts_demands (phase_here h p) (stmts_of p.body)) b.1 in
       let one : phase_view f ≡ resolve_phase h p = cc in
       let rest : map phase_view fs ≡ resolve_phases (phase_end h p) ps = cc in
       let n = or_zero (class_named h.known p.class) in
-      let below : At known n (inside h p) = record { same_known = at.same_known; same_class = refl } in
+      let below : At known n (phase_here h p) = record { same_known = at.same_known; same_class = refl } in
       let number : n ≡ f.class.0 = sym (ap (λ (v : PhaseView). v.class) one) in (
         subst (IsChildClass known.shape class) number (class_child class h at p.at p.class b.0),
         subst (FitsTree known.shape methods class) (sym (ap (λ (v : PhaseView). v.key) one)) (tree_as known class methods there h at k.Int p.key c.0),
-        subst (λ m. FitsSteps known.shape methods m (steps_in f.body)) number (subst (FitsSteps known.shape methods n) (sym (ap (λ (v : PhaseView). v.body) one)) (stmts_fit known n methods there (inside h p) below (stmts_of p.body) c.1)),
-        subst (λ m. FitsPhases known.shape methods m fs l) number (phases_fit n (phase_end h p) (after_all_at known n (inside h p) below (stmts_of p.body)) on past ps name kind last fs l rest is a.1 g),
+        subst (λ m. FitsSteps known.shape methods m (steps_in f.body)) number (subst (FitsSteps known.shape methods n) (sym (ap (λ (v : PhaseView). v.body) one)) (stmts_fit known n methods there (phase_here h p) below (stmts_of p.body) c.1)),
+        subst (λ m. FitsPhases known.shape methods m fs l) number (phases_fit n (phase_end h p) (after_all_at known n (phase_here h p) below (stmts_of p.body)) on past ps name kind last fs l rest is a.1 g),
       )
 
   event_fits : (n : ℕ) (e : EventTree) (made : Event) → event_view made ≡ resolve_event known e → first_wrong (event_demands known n e) ≡ None → FitsEvent known.shape methods made
@@ -231,9 +231,9 @@ module _ (known : Known) (methods : List Method) (there : There known methods) w
 -- ---- all of a service
 
 fits_with : (known : Known) (s : ServiceTree) (r : Resolved) → known.methods ≡ service_methods s → Parts known s → resolved_view r ≡ resolve_with known s → FitsService known.shape r
-fits_with known s r declared p is =
+fits_with known s r with_local p is =
     let methods_are : map method_view r.methods ≡ (resolve_with known s).methods = ap (λ (v : ResolvedView). v.methods) is in
-    let signed : map sig_of (map method_view r.methods) ≡ known.methods = ap (map sig_of) methods_are ∙ service_signed known s ∙ sym declared in
+    let signed : map sig_of (map method_view r.methods) ≡ known.methods = ap (map sig_of) methods_are ∙ service_signed known s ∙ sym with_local in
     let there = all_there known r.methods signed in
     let contexts = resolve_contexts known 1 0 (contexts_of s.contexts) in
     let own = resolve_methods known 0 (length (methods_in 1 (contexts_of s.contexts))) s.methods in

@@ -12,10 +12,10 @@ use Rattle.mace_ast.specs.Stmts as s
 use Rattle.mace_ast.specs.Stmts.{StmtTree, StmtTrees, ElseTree, no_stmts, stmt_and, no_else, otherwise, stmts_of}
 use Rattle.resolved_service.specs.Steps.{is_end, surely_ends}
 use Rattle.type_rules.specs.Demands.{first_wrong}
-use Rattle.type_rules.specs.Here.{Here, declared, counted, behind}
+use Rattle.type_rules.specs.Here.{Here, with_local, with_counter, behind}
 use Rattle.type_rules.specs.Exprs.{demands, demands_as, class_asks}
 use Rattle.type_rules.specs.Stmts.{after, after_all, after_else, local_asks, reach_asks, start_of, resolve_stmt, stmt_demands, stmts_demands, behind_demands, else_demands}
-use Rattle.type_rules.specs.Functions.{after_params, param_asks, no_map, method_params_demands, event_params_demands, inside, phase_end, event_end, phase_body, phase_demands, phases_demands}
+use Rattle.type_rules.specs.Functions.{after_params, param_asks, no_map, method_params_demands, event_params_demands, phase_here, phase_end, event_end, phase_body, phase_demands, phases_demands}
 use Rattle.type_rules.proofs.First.{first_wrong_parts}
 use Rattle.type_laws.proofs.Sound.{all_hold}
 
@@ -24,7 +24,7 @@ HasFew h = length h.slots ≤ LOCALS
 
 -- ---- parameters
 
-one_param : (h : Here) (p : Param) → first_wrong (param_asks h p) ≡ None → length (declared h p.name.text p.kind).slots ≤ PARAMS
+one_param : (h : Here) (p : Param) → first_wrong (param_asks h p) ≡ None → length (with_local h p.name.text p.kind).slots ≤ PARAMS
 one_param h p d =
     let l = ltb-true (length h.slots) PARAMS (all_hold (param_asks h p) d).0 in
     let e = length-append h.slots (p.kind ∷ []) in
@@ -33,14 +33,14 @@ one_param h p d =
 pub method_params_few : (h : Here) (ps : List Param) → first_wrong (method_params_demands h ps) ≡ None → length h.slots ≤ PARAMS → length (after_params h ps).slots ≤ PARAMS
 method_params_few h [] d few = few
 method_params_few h (p ∷ ps) d few =
-    let next = declared h p.name.text p.kind in
+    let next = with_local h p.name.text p.kind in
     let a = first_wrong_parts (param_asks h p) (method_params_demands next ps) d in
     method_params_few next ps a.1 (one_param h p a.0)
 
 pub event_params_few : (h : Here) (ps : List Param) → first_wrong (event_params_demands h ps) ≡ None → length h.slots ≤ PARAMS → length (after_params h ps).slots ≤ PARAMS
 event_params_few h [] d few = few
 event_params_few h (p ∷ ps) d few =
-    let next = declared h p.name.text p.kind in
+    let next = with_local h p.name.text p.kind in
     let a = first_wrong_parts (param_asks h p ++ no_map p) (event_params_demands next ps) d in
     event_params_few next ps a.1 (one_param h p (first_wrong_parts (param_asks h p) (no_map p) a.0).0)
 
@@ -49,13 +49,13 @@ params_within n few = omega arith
 
 -- ---- statements
 
-one_local : (h : Here) (name : Name) (kind : Kind) → first_wrong (local_asks h name 1) ≡ None → HasFew (declared h name.text kind)
+one_local : (h : Here) (name : Name) (kind : Kind) → first_wrong (local_asks h name 1) ≡ None → HasFew (with_local h name.text kind)
 one_local h name kind d =
     let l = leb-true (length h.slots + 1) LOCALS (all_hold (local_asks h name 1) d).1.0 in
     let e = length-append h.slots (kind ∷ []) in
     omega arith
 
-three_locals : (h : Here) (name : Name) → first_wrong (local_asks h name 3) ≡ None → HasFew (counted h name.text)
+three_locals : (h : Here) (name : Name) → first_wrong (local_asks h name 3) ≡ None → HasFew (with_counter h name.text)
 three_locals h name d =
     let l = leb-true (length h.slots + 3) LOCALS (all_hold (local_asks h name 3) d).1.0 in
     let e = length-append h.slots (k.Int ∷ k.Int ∷ []) in
@@ -72,7 +72,7 @@ mutual
       else_few next other b.1 (all_few h body b.0 few)
   after_few h (s.While at test body) d few = all_few h body (first_wrong_parts (demands_as h k.Bool test) (stmts_demands h body) d).1 few
   after_few h (s.For at name low high body) d few =
-      let inner = counted h name.text in
+      let inner = with_counter h name.text in
       let a = first_wrong_parts (demands_as h k.Int low) (demands_as h k.Int high ++ (local_asks h name 3 ++ stmts_demands inner body)) d in
       let b = first_wrong_parts (demands_as h k.Int high) (local_asks h name 3 ++ stmts_demands inner body) a.1 in
       let c = first_wrong_parts (local_asks h name 3) (stmts_demands inner body) b.1 in
@@ -112,9 +112,9 @@ pub phases_few : (h : Here) (ended : Bool) (ps : List PhaseTree) → first_wrong
 phases_few h ended [] d few = few
 phases_few h ended (p ∷ ps) d few =
     let on = surely_ends (phase_body h p) in
-    let body = stmts_demands (inside h p) (stmts_of p.body) in
+    let body = stmts_demands (phase_here h p) (stmts_of p.body) in
     let a = first_wrong_parts (phase_demands h ended p) (phases_demands (phase_end h p) on ps) d in
     let b = first_wrong_parts (reach_asks ended p.at) (class_asks h p.at p.class ++ (demands_as h k.Int p.key ++ body)) a.0 in
     let c = first_wrong_parts (class_asks h p.at p.class) (demands_as h k.Int p.key ++ body) b.1 in
     let e = first_wrong_parts (demands_as h k.Int p.key) body c.1 in
-    phases_few (phase_end h p) on ps a.1 (all_few (inside h p) (stmts_of p.body) e.1 few)
+    phases_few (phase_end h p) on ps a.1 (all_few (phase_here h p) (stmts_of p.body) e.1 few)

@@ -19,7 +19,7 @@ use Rattle.type_rules.specs.declared.meant.Variable.TheVariants as var
 use Rattle.type_rules.specs.declared.error.TypeError.TheVariants.{Mismatch}
 use Rattle.type_rules.specs.Kinds.{has_kind}
 use Rattle.type_rules.specs.Demands.{ask, first_wrong}
-use Rattle.type_rules.specs.Here.{Here, Function, OfMethod, OfEvent, counted, behind, variable, called}
+use Rattle.type_rules.specs.Here.{Here, Function, OfMethod, OfEvent, with_counter, behind, variable, callee_named}
 use Rattle.type_rules.specs.Exprs.{kind_of, resolve, resolve_all, call_tree, child_tree, count, of_kind, demands, demands_as, args_demands, call_demands, child_demands}
 use Rattle.type_rules.specs.Stmts.{kind_or_int, after, after_all, after_else, own_variable, target_variable, target_kind, target_asks, key_demands, set_demands, spawn_takes, spawn_demands, set_step, cut_step, resolve_stmt, resolve_stmts, resolve_else, local_asks, end_demands, return_demands, finish_demands, start_of, reach_asks, stmt_demands, stmts_demands, behind_demands, else_demands}
 use Rattle.type_rules.proofs.First.{first_wrong_parts}
@@ -41,7 +41,7 @@ module _ (known : Known) (class : ℕ) where
         after_else_at (behind h (after_all h body)) (record { same_known = b.same_known; same_class = b.same_class }) other
     after_at h at (s.While place test body) = let b = after_all_at h at body in record { same_known = b.same_known; same_class = b.same_class }
     after_at h at (s.For place name low high body) =
-        let b = after_all_at (counted h name.text) (record { same_known = at.same_known; same_class = at.same_class }) body in
+        let b = after_all_at (with_counter h name.text) (record { same_known = at.same_known; same_class = at.same_class }) body in
         record { same_known = b.same_known; same_class = b.same_class }
     after_at h at (s.Require place test) = at
     after_at h at (s.Send place label value) = at
@@ -84,8 +84,8 @@ module _ (known : Known) (class : ℕ) where
       trees_at : (kinds : List Kind) (es : ExprTrees) → length kinds ≡ count es → first_wrong (args_demands h kinds es) ≡ None → FitsTrees known.shape methods class (resolve_all h es)
       trees_at kinds es l d = moved_all (resolve_all h es) (args_fit h methods there_at kinds es l d)
 
-      call_at : (place : Span) (name : List ℕ) (es : ExprTrees) → first_wrong (call_demands h place name es) ≡ None → Fits (call_tree place (called h name) (resolve_all h es))
-      call_at place name es d = moved (call_tree place (called h name) (resolve_all h es)) (call_fits h methods there_at place name es (λ kinds l d. args_fit h methods there_at kinds es l d) d)
+      call_at : (place : Span) (name : List ℕ) (es : ExprTrees) → first_wrong (call_demands h place name es) ≡ None → Fits (call_tree place (callee_named h name) (resolve_all h es))
+      call_at place name es d = moved (call_tree place (callee_named h name) (resolve_all h es)) (call_fits h methods there_at place name es (λ kinds l d. args_fit h methods there_at kinds es l d) d)
 
       child_at : (place : Span) (child : List ℕ) (key : ExprTree) (name : List ℕ) (es : ExprTrees) → first_wrong (child_demands h place child key name es) ≡ None
           → Fits (child_tree h place child name (resolve h key) (resolve_all h es))
@@ -169,10 +169,10 @@ module _ (known : Known) (class : ℕ) where
           let a = first_wrong_parts (demands_as h k.Bool test) (stmts_demands h body) d in
           (tree_as h at k.Bool test a.0, stmts_fit h at body a.1)
       stmt_fits h at (s.For place name low high body) d =
-          let a = first_wrong_parts (demands_as h k.Int low) (demands_as h k.Int high ++ (local_asks h name 3 ++ stmts_demands (counted h name.text) body)) d in
-          let b = first_wrong_parts (demands_as h k.Int high) (local_asks h name 3 ++ stmts_demands (counted h name.text) body) a.1 in
-          let c = first_wrong_parts (local_asks h name 3) (stmts_demands (counted h name.text) body) b.1 in
-          (tree_as h at k.Int low a.0, tree_as h at k.Int high b.0, stmts_fit (counted h name.text) (record { same_known = at.same_known; same_class = at.same_class }) body c.1)
+          let a = first_wrong_parts (demands_as h k.Int low) (demands_as h k.Int high ++ (local_asks h name 3 ++ stmts_demands (with_counter h name.text) body)) d in
+          let b = first_wrong_parts (demands_as h k.Int high) (local_asks h name 3 ++ stmts_demands (with_counter h name.text) body) a.1 in
+          let c = first_wrong_parts (local_asks h name 3) (stmts_demands (with_counter h name.text) body) b.1 in
+          (tree_as h at k.Int low a.0, tree_as h at k.Int high b.0, stmts_fit (with_counter h name.text) (record { same_known = at.same_known; same_class = at.same_class }) body c.1)
       stmt_fits h at (s.Require place test) d = tree_at h at test (first_wrong_parts (demands h test) (ask (has_kind (kind_of h test) k.Bool) (Mismatch place) ∷ []) d).0
       stmt_fits h at (s.Send place label value) d = tree_at h at value d
       stmt_fits h at (s.Spawn place event args) d =

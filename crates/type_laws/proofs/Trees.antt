@@ -26,7 +26,7 @@ use Rattle.type_rules.specs.declared.meant.Callee.{Callee}
 use Rattle.type_rules.specs.declared.meant.Callee.TheVariants as callee
 use Rattle.type_rules.specs.Demands.{Demand, ask, first_wrong}
 use Rattle.type_rules.specs.Known.{class_named, field_named, field_kind, method_named, signature_at, no_signature}
-use Rattle.type_rules.specs.Here.{Here, local_named, of_local, or_else, variable, called, takes, is_earlier, is_child, rows_of}
+use Rattle.type_rules.specs.Here.{Here, local_named, of_local, or_else, variable, callee_named, takes, is_earlier, is_child, rows_of}
 use Rattle.type_rules.specs.Exprs.{kind_of, resolve, resolve_all, or_zero, read_tree, binary_tree, call_tree, child_tree, count, above_asks, class_asks, method_asks, child_takes, typed, of_kind, demands, args_demands, demands_as, call_demands, child_demands}
 use Rattle.type_rules.proofs.First.{first_wrong_parts}
 use Rattle.type_laws.proofs.Sound.{AllHold, all_hold, none_wrong}
@@ -105,8 +105,8 @@ module _ (h : Here) (methods : List Method) where
     abbrev Callable : Option ℕ → Option ℕ → Option Callee
     Callable b m = or_else (option_map callee.Builtin b) (option_map callee.Method m)
 
-    pub call_fits : (at : Span) (name : List ℕ) (es : ExprTrees) → ArgsFit es → first_wrong (call_demands h at name es) ≡ None → Fits (call_tree at (called h name) (resolve_all h es))
-    call_fits at name es args d = by (first_builtin (rows_of h.known) name) (method_named h.known h.class name) refl (all_hold (Asked at es (called h name)) d)
+    pub call_fits : (at : Span) (name : List ℕ) (es : ExprTrees) → ArgsFit es → first_wrong (call_demands h at name es) ≡ None → Fits (call_tree at (callee_named h name) (resolve_all h es))
+    call_fits at name es args d = by (first_builtin (rows_of h.known) name) (method_named h.known h.class name) refl (all_hold (Asked at es (callee_named h name)) d)
       where
         by : (b m : Option ℕ) → method_named h.known h.class name ≡ m → AllHold (Asked at es (Callable b m)) → Fits (call_tree at (Callable b m) (resolve_all h es))
         by (Some row) m is d = args (takes h.known (callee.Builtin row)) (eqb-true _ _ d.1.1.0) (none_wrong (args_demands h (takes h.known (callee.Builtin row)) es) d.1.1.1)

@@ -19,7 +19,7 @@ use Rattle.type_rules.specs.declared.meant.Callee.TheVariants as callee
 use Rattle.type_rules.specs.Demands.{Demand, ask}
 use Rattle.type_rules.specs.Kinds.{has_kind, row_of_one, row_of_two, rows_of_sign, rows_before, rows_of_index}
 use Rattle.type_rules.specs.Known.{class_named, signature_at}
-use Rattle.type_rules.specs.Here.{Here, variable, variable_kind, called, takes, gives, is_earlier, is_child, level_above, field_in, kind_in, method_in}
+use Rattle.type_rules.specs.Here.{Here, variable, variable_kind, callee_named, takes, gives, is_earlier, is_child, level_above, field_in, kind_in, method_in}
 
 -- ---- kinds: what a literal, a name, a row or a call gives, if anything
 
@@ -33,7 +33,7 @@ binary_kind sign a b = option_map gives_of (row_of_two (rows_of_sign sign) a b)
 
 -- what a call gives, if anything
 abbrev pub call_gives : Here → List ℕ → Option Kind
-call_gives h name = option_and_then (gives h.known) (called h name)
+call_gives h name = option_and_then (gives h.known) (callee_named h name)
 
 abbrev pub child_gives : Here → List ℕ → List ℕ → Option Kind
 child_gives h class name = option_and_then (λ m. (signature_at h.known m).result) (method_in h class name)
@@ -99,7 +99,7 @@ module _ (h : Here) where
     resolve (Above at class name) = above_tree h at class name
     resolve (Index at name key) = row_tree at (row_of_two rows_of_index (name_kind h name) (kind_of h key)) (two (read_tree at (variable h name)) (resolve key))
     resolve (AboveIndex at class name key) = row_tree at (row_of_two rows_of_index (kind_in h class name) (kind_of h key)) (two (above_tree h at class name) (resolve key))
-    resolve (Call at name args) = call_tree at (called h name) (resolve_all args)
+    resolve (Call at name args) = call_tree at (callee_named h name) (resolve_all args)
     resolve (ChildCall at class key name args) = child_tree h at class name (resolve key) (resolve_all args)
     resolve (Unary at op operand) = row_tree at (row_of_one (rows_before op) (kind_of h operand)) (one (resolve operand))
     resolve (Binary at op left right) = binary_tree at op (kind_of h left) (kind_of h right) (resolve left) (resolve right)
@@ -124,13 +124,13 @@ count (expr_and e es) = suc (count es)
 
 -- what a call takes
 abbrev pub call_takes : Here → List ℕ → List Kind
-call_takes h name = option_map_or (takes h.known) (called h name) []
+call_takes h name = option_map_or (takes h.known) (callee_named h name) []
 
 -- of a call, before its arguments
 abbrev pub call_asks : Here → Span → List ℕ → ℕ → List Demand
 call_asks h at name given =
-    ask (is_some (called h name)) (UnknownName at)
-    ∷ ask (option_map_or (is_earlier h) (called h name) false) (CalleeLater at)
+    ask (is_some (callee_named h name)) (UnknownName at)
+    ∷ ask (option_map_or (is_earlier h) (callee_named h name) false) (CalleeLater at)
     ∷ ask (length (call_takes h name) == given) (ArgCount at)
     ∷ []
 

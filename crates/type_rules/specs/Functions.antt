@@ -18,7 +18,7 @@ use Rattle.type_rules.specs.declared.known.Known.{Known}
 use Rattle.type_rules.specs.Demands.{Demand, ask}
 use Rattle.type_rules.specs.Kinds.{same_kind}
 use Rattle.type_rules.specs.Known.{kinds_of, class_named, event_named, method_named, none_before}
-use Rattle.type_rules.specs.Here.{Here, OfMethod, OfEvent, rows_of, start, declared, in_class, local_named}
+use Rattle.type_rules.specs.Here.{Here, OfMethod, OfEvent, rows_of, start, with_local, in_class, local_named}
 use Rattle.type_rules.specs.Exprs.{or_zero, resolve, class_asks, demands_as}
 use Rattle.type_rules.specs.Stmts.{after_all, resolve_stmts, stmts_demands, reach_asks}
 
@@ -26,7 +26,7 @@ use Rattle.type_rules.specs.Stmts.{after_all, resolve_stmts, stmts_demands, reac
 
 abbrev pub after_params : Here → List Param → Here
 after_params h [] = h
-after_params h (p ∷ ps) = after_params (declared h p.name.text p.kind) ps
+after_params h (p ∷ ps) = after_params (with_local h p.name.text p.kind) ps
 
 abbrev pub param_asks : Here → Param → List Demand
 param_asks h p =
@@ -40,11 +40,11 @@ no_map p = ask (not (same_kind p.kind k.Map)) (Mismatch p.name.at) ∷ []
 
 abbrev pub method_params_demands : Here → List Param → List Demand
 method_params_demands h [] = []
-method_params_demands h (p ∷ ps) = param_asks h p ++ method_params_demands (declared h p.name.text p.kind) ps
+method_params_demands h (p ∷ ps) = param_asks h p ++ method_params_demands (with_local h p.name.text p.kind) ps
 
 abbrev pub event_params_demands : Here → List Param → List Demand
 event_params_demands h [] = []
-event_params_demands h (p ∷ ps) = (param_asks h p ++ no_map p) ++ event_params_demands (declared h p.name.text p.kind) ps
+event_params_demands h (p ∷ ps) = (param_asks h p ++ no_map p) ++ event_params_demands (with_local h p.name.text p.kind) ps
 
 -- ---- the end of a function, by its type and by what is written there
 
@@ -129,22 +129,22 @@ abbrev pub here_stmts : EventTree → StmtTrees
 here_stmts e = option_map_or stmts_of e.here no_stmts
 
 -- below `down`
-abbrev pub inside : Here → PhaseTree → Here
-inside h p = in_class h (or_zero (class_named h.known p.class))
+abbrev pub phase_here : Here → PhaseTree → Here
+phase_here h p = in_class h (or_zero (class_named h.known p.class))
 
 abbrev pub phase_end : Here → PhaseTree → Here
-phase_end h p = after_all (inside h p) (stmts_of p.body)
+phase_end h p = after_all (phase_here h p) (stmts_of p.body)
 
 abbrev pub event_end : Here → List PhaseTree → Here
 event_end h [] = h
 event_end h (p ∷ ps) = event_end (phase_end h p) ps
 
 abbrev pub phase_body : Here → PhaseTree → Steps
-phase_body h p = resolve_stmts (inside h p) (stmts_of p.body)
+phase_body h p = resolve_stmts (phase_here h p) (stmts_of p.body)
 
 -- the key belongs to the phase before, behind which something can come
 abbrev pub phase_demands : Here → Bool → PhaseTree → List Demand
-phase_demands h ended p = reach_asks ended p.at ++ (class_asks h p.at p.class ++ (demands_as h k.Int p.key ++ stmts_demands (inside h p) (stmts_of p.body)))
+phase_demands h ended p = reach_asks ended p.at ++ (class_asks h p.at p.class ++ (demands_as h k.Int p.key ++ stmts_demands (phase_here h p) (stmts_of p.body)))
 
 abbrev pub phases_demands : Here → Bool → List PhaseTree → List Demand
 phases_demands h ended [] = []

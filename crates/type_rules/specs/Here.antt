@@ -37,12 +37,12 @@ start known class function within = record { known = known; class = class; funct
 -- ---- slots: one for a parameter or a `let`, three for a `for`
 
 -- one more local, in a slot of its own
-abbrev pub declared : Here → List ℕ → Kind → Here
-declared h name kind = record h { locals = h.locals ++ record { name = name; kind = kind; slot = length h.slots } ∷ []; slots = h.slots ++ kind ∷ [] }
+abbrev pub with_local : Here → List ℕ → Kind → Here
+with_local h name kind = record h { locals = h.locals ++ record { name = name; kind = kind; slot = length h.slots } ∷ []; slots = h.slots ++ kind ∷ [] }
 
 -- the counter and the bound of a loop have slots and no names; the loop's name has the slot behind them
-abbrev pub counted : Here → List ℕ → Here
-counted h name = declared (record h { slots = h.slots ++ k.Int ∷ k.Int ∷ [] }) name k.Int
+abbrev pub with_counter : Here → List ℕ → Here
+with_counter h name = with_local (record h { slots = h.slots ++ k.Int ∷ k.Int ∷ [] }) name k.Int
 
 -- behind a block the locals are those before it; the slots stay given
 abbrev pub behind : Here → Here → Here
@@ -84,8 +84,8 @@ abbrev pub rows_of : Known → List Row
 rows_of known = version_rows known.version
 
 -- a builtin, else a method of the context here
-abbrev pub called : Here → List ℕ → Option Callee
-called h name = or_else (option_map callee.Builtin (first_builtin (rows_of h.known) name)) (option_map callee.Method (method_named h.known h.class name))
+abbrev pub callee_named : Here → List ℕ → Option Callee
+callee_named h name = or_else (option_map callee.Builtin (first_builtin (rows_of h.known) name)) (option_map callee.Method (method_named h.known h.class name))
 
 abbrev pub takes : Known → Callee → List Kind
 takes known (callee.Builtin row) = takes_of row

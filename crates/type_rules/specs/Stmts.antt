@@ -20,7 +20,7 @@ use Rattle.type_rules.specs.declared.meant.Variable.TheVariants as var
 use Rattle.type_rules.specs.Demands.{Demand, ask}
 use Rattle.type_rules.specs.Kinds.{has_kind}
 use Rattle.type_rules.specs.Known.{class_named, event_named, event_params}
-use Rattle.type_rules.specs.Here.{Here, Function, OfMethod, OfEvent, declared, counted, behind, local_named, variable, variable_kind, called}
+use Rattle.type_rules.specs.Here.{Here, Function, OfMethod, OfEvent, with_local, with_counter, behind, local_named, variable, variable_kind, callee_named}
 use Rattle.type_rules.specs.Exprs.{kind_of, resolve, resolve_all, or_zero, call_tree, child_tree, demands, demands_as, args_demands, call_demands, child_demands}
 
 -- ---- what may be named behind a statement
@@ -31,10 +31,10 @@ kind_or_int o = unwrap_or o k.Int
 
 abbrev mutual
   pub after : Here → StmtTree → Here
-  after h (Let at name value) = declared h name.text (kind_or_int (kind_of h value))
+  after h (Let at name value) = with_local h name.text (kind_or_int (kind_of h value))
   after h (If at test body other) = after_else (behind h (after_all h body)) other
   after h (While at test body) = behind h (after_all h body)
-  after h (For at name low high body) = behind h (after_all (counted h name.text) body)
+  after h (For at name low high body) = behind h (after_all (with_counter h name.text) body)
   after h _ = h
 
   pub after_all : Here → StmtTrees → Here
@@ -72,13 +72,13 @@ abbrev mutual
   resolve_stmt h (Let at name value) = r.SetLocal at (length h.slots) (resolve h value)
   resolve_stmt h (If at test body other) = r.If at (resolve h test) (resolve_stmts h body) (resolve_else (behind h (after_all h body)) other)
   resolve_stmt h (While at test body) = r.While at (resolve h test) (resolve_stmts h body)
-  resolve_stmt h (For at name low high body) = r.For at (length h.slots) (resolve h low) (resolve h high) (resolve_stmts (counted h name.text) body)
+  resolve_stmt h (For at name low high body) = r.For at (length h.slots) (resolve h low) (resolve h high) (resolve_stmts (with_counter h name.text) body)
   resolve_stmt h (Require at test) = r.Require at (resolve h test)
   resolve_stmt h (Send at label value) = r.Send at label (resolve h value)
   resolve_stmt h (Spawn at event args) = r.Spawn at (or_zero (event_named h.known event)) (resolve_all h (exprs_of args))
   resolve_stmt h (Cut at target key) = cut_step at (target_variable h target) (resolve h key)
   resolve_stmt h (Set at target key value) = set_step at (target_variable h target) (option_map (resolve h) key) (resolve h value)
-  resolve_stmt h (Call at name args) = r.Do at (call_tree at (called h name) (resolve_all h (exprs_of args)))
+  resolve_stmt h (Call at name args) = r.Do at (call_tree at (callee_named h name) (resolve_all h (exprs_of args)))
   resolve_stmt h (ChildCall at class key name args) = r.Do at (child_tree h at class name (resolve h key) (resolve_all h (exprs_of args)))
   resolve_stmt h (Return at value) = r.Return at (option_map (resolve h) value)
   resolve_stmt h (Finish at value) = r.Finish at (option_map (resolve h) value)
@@ -169,7 +169,7 @@ abbrev mutual
   stmt_demands h (Let at name value) = demands h value ++ local_asks h name 1
   stmt_demands h (If at test body other) = demands_as h k.Bool test ++ (stmts_demands h body ++ else_demands (behind h (after_all h body)) other)
   stmt_demands h (While at test body) = demands_as h k.Bool test ++ stmts_demands h body
-  stmt_demands h (For at name low high body) = demands_as h k.Int low ++ (demands_as h k.Int high ++ (local_asks h name 3 ++ stmts_demands (counted h name.text) body))
+  stmt_demands h (For at name low high body) = demands_as h k.Int low ++ (demands_as h k.Int high ++ (local_asks h name 3 ++ stmts_demands (with_counter h name.text) body))
   stmt_demands h (Require at test) = demands h test ++ ask (has_kind (kind_of h test) k.Bool) (Mismatch at) ∷ []
   stmt_demands h (Send at label value) = demands h value
   stmt_demands h (Spawn at event args) = spawn_demands h at event args

@@ -17,13 +17,13 @@ use Rattle.mace_ast.specs.Counts.{class_count, classes_count}
 use Rattle.type_rules.proofs.Counts.{length-classes_in}
 use Rattle.type_tables.specs.Indexed.{AreAbove}
 use Rattle.type_tables.specs.declared.gather.Gathered.{Gathered}
-use Rattle.type_tables.specs.inner.Gathering.{known_in, IsGathered, grown, Gains}
-use Rattle.name_table.specs.Numbers.{noted}
+use Rattle.type_tables.specs.inner.Gathering.{known_in, IsGathered, known_with, Gains}
+use Rattle.name_table.specs.Numbers.{numbers_with}
 use Rattle.type_tables.proofs.Indexing.{indexed_as, indexed_class, indexed_event, indexed_method}
 
 -- ---- growing
 
-pub grown_twice : (k : Known) (a b : List Entry) (c d : List Signature) (e f : List EventInfo) → grown (grown k a c e) b d f ≡ grown k (a ++ b) (c ++ d) (e ++ f)
+pub grown_twice : (k : Known) (a b : List Entry) (c d : List Signature) (e f : List EventInfo) → known_with (known_with k a c e) b d f ≡ known_with k (a ++ b) (c ++ d) (e ++ f)
 grown_twice k a b c d e f =
     (λ i. record {
       version = k.version;
@@ -39,7 +39,7 @@ grown_twice k a b c d e f =
 pub gains_twice : (g h j : Gathered) (a b : List Entry) (c d : List Signature) (e f : List EventInfo) → Gains g h a c e → Gains h j b d f → Gains g j (a ++ b) (c ++ d) (e ++ f)
 gains_twice g h j a b c d e f first second = record {
   gathered = second.gathered;
-  known = second.known ∙ ap (λ k. grown k b d f) first.known ∙ grown_twice (known_in g) a b c d e f;
+  known = second.known ∙ ap (λ k. known_with k b d f) first.known ∙ grown_twice (known_in g) a b c d e f;
 }
 
 -- the same under other names
@@ -138,7 +138,7 @@ blank_more xs = sym (append-nil xs)
 module _ (g h : Gathered) (is : IsGathered g) where
   pub class_gained : (info made : ClassInfo) (above : List ℕ) (name : List ℕ) → info ≡ made → info.name ≡ name → AreAbove (length g.classes.items) above → length g.classes.items + 1 < 2 ^ 16
       → h.version ≡ g.version → h.classes.items ≡ g.classes.items ++ info ∷ [] → h.above.items ≡ g.above.items ++ above ∷ [] → h.methods ≡ g.methods → h.events ≡ g.events
-      → h.class_names ≡ noted g.class_names name (length g.classes.items) → h.event_names ≡ g.event_names → h.method_names.items ≡ g.method_names.items ++ [] ∷ []
+      → h.class_names ≡ numbers_with g.class_names name (length g.classes.items) → h.event_names ≡ g.event_names → h.method_names.items ≡ g.method_names.items ++ [] ∷ []
       → Gains g h (record { info = made; above = above } ∷ []) [] []
   class_gained info made above name same named earlier room version classes aboves methods events cn en mn =
       let known : known_in h ≡ record { version = g.version; shape = record { classes = g.classes.items ++ info ∷ []; events = g.events.items }; above = g.above.items ++ above ∷ []; methods = g.methods.items } =
@@ -155,7 +155,7 @@ module _ (g h : Gathered) (is : IsGathered g) where
 
   pub event_gained : (info made : EventInfo) (name : List ℕ) → info ≡ made → info.name ≡ name → length g.events.items + 1 < 2 ^ 16
       → h.version ≡ g.version → h.classes ≡ g.classes → h.above ≡ g.above → h.methods ≡ g.methods → h.events.items ≡ g.events.items ++ info ∷ []
-      → h.class_names ≡ g.class_names → h.event_names ≡ noted g.event_names name (length g.events.items) → h.method_names ≡ g.method_names
+      → h.class_names ≡ g.class_names → h.event_names ≡ numbers_with g.event_names name (length g.events.items) → h.method_names ≡ g.method_names
       → Gains g h [] [] (made ∷ [])
   event_gained info made name same named room version classes aboves methods events cn en mn =
       let known : known_in h ≡ record { version = g.version; shape = record { classes = g.classes.items; events = g.events.items ++ info ∷ [] }; above = g.above.items; methods = g.methods.items } =
@@ -172,7 +172,7 @@ module _ (g h : Gathered) (is : IsGathered g) where
 
   pub method_gained : (s made : Signature) (class : ℕ) (name : List ℕ) → s ≡ made → s.class ≡ class → s.name ≡ name → class < length g.classes.items → length g.methods.items + 1 < 2 ^ 16
       → h.version ≡ g.version → h.classes ≡ g.classes → h.above ≡ g.above → h.methods.items ≡ g.methods.items ++ s ∷ [] → h.events ≡ g.events
-      → h.class_names ≡ g.class_names → h.event_names ≡ g.event_names → h.method_names.items ≡ set g.method_names.items class (noted (get_or g.method_names.items class []) name (length g.methods.items))
+      → h.class_names ≡ g.class_names → h.event_names ≡ g.event_names → h.method_names.items ≡ set g.method_names.items class (numbers_with (get_or g.method_names.items class []) name (length g.methods.items))
       → Gains g h [] (made ∷ []) []
   method_gained s made class name same in_class named there room version classes aboves methods events cn en mn =
       let known : known_in h ≡ record { version = g.version; shape = record { classes = g.classes.items; events = g.events.items }; above = g.above.items; methods = g.methods.items ++ s ∷ [] } =
@@ -207,7 +207,7 @@ service_gathered g h j k l s start first second third fourth =
     let inside : Gains h j (classes_in (0 ∷ []) 0 1 cs) (methods_in 1 cs) [] = gains_as h j _ _ _ _ _ _ (ap (λ n. classes_in (0 ∷ []) 0 n cs) number) (ap (λ n. methods_in n cs) number) refl second in
     let all = gains_twice g h l _ _ _ _ _ _ first (gains_twice h j l _ _ _ _ _ _ inside (gains_twice j k l _ _ _ _ _ _ third fourth)) in (
       all.gathered,
-      all.known ∙ ap (λ k. grown k (entry [] None s.name s.vars ∷ (classes_in (0 ∷ []) 0 1 cs ++ [])) (methods_in 1 cs ++ (map (signature 0) s.methods ++ [])) (map event_info s.events)) start
+      all.known ∙ ap (λ k. known_with k (entry [] None s.name s.vars ∷ (classes_in (0 ∷ []) 0 1 cs ++ [])) (methods_in 1 cs ++ (map (signature 0) s.methods ++ [])) (map event_info s.events)) start
           ∙ (λ i. record {
             version = s.version;
             shape = record { classes = map (λ (c : Entry). c.info) (entry [] None s.name s.vars ∷ append-nil (classes_in (0 ∷ []) 0 1 cs) i); events = map event_info s.events };

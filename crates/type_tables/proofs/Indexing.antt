@@ -9,7 +9,7 @@ use Rattle.wave_base.specs.declared.shape.EventInfo.{EventInfo}
 use Rattle.wave_base.specs.Names.{same_bytes}
 use Rattle.type_rules.specs.declared.known.Known.{Known}
 use Rattle.type_rules.specs.declared.known.Signature.{Signature}
-use Rattle.name_table.specs.Numbers.{noted}
+use Rattle.name_table.specs.Numbers.{numbers_with}
 use Rattle.name_table.proofs.Noting.{noted_more, told_blank, told_in}
 use Rattle.type_tables.specs.Indexed.{AreAbove, IsIndexed}
 use Rattle.type_tables.proofs.Walks.{differ}
@@ -64,7 +64,7 @@ indexed_as k l c d e f m n a b g h is = subst (λ x. IsIndexed x d f n) a (subst
 module _ (k : Known) (classes events : List (List ℕ × ℕ)) (methods : List (List (List ℕ × ℕ))) (is : IsIndexed k classes events methods) where
   pub indexed_class : (info : ClassInfo) (above : List ℕ) (name : List ℕ) → info.name ≡ name → AreAbove (length k.shape.classes) above → length k.above ≡ length k.shape.classes → length k.shape.classes + 1 < 2 ^ 16
       → IsIndexed (record { version = k.version; shape = record { classes = k.shape.classes ++ info ∷ []; events = k.shape.events }; above = k.above ++ above ∷ []; methods = k.methods })
-      (noted classes name (length k.shape.classes)) events (methods ++ [] ∷ [])
+      (numbers_with classes name (length k.shape.classes)) events (methods ++ [] ∷ [])
   indexed_class info above name named earlier aboves room = record {
     class = noted_more (λ q (c : ClassInfo). same_bytes c.name q) k.shape.classes info name (λ q. ap (λ n. same_bytes n q) named) classes is.class;
     event = is.event;
@@ -77,7 +77,7 @@ module _ (k : Known) (classes events : List (List ℕ × ℕ)) (methods : List (
 
   pub indexed_event : (info : EventInfo) (name : List ℕ) → info.name ≡ name → length k.shape.events + 1 < 2 ^ 16
       → IsIndexed (record { version = k.version; shape = record { classes = k.shape.classes; events = k.shape.events ++ info ∷ [] }; above = k.above; methods = k.methods })
-      classes (noted events name (length k.shape.events)) methods
+      classes (numbers_with events name (length k.shape.events)) methods
   indexed_event info name named room = record {
     class = is.class;
     event = noted_more (λ q (e : EventInfo). same_bytes e.name q) k.shape.events info name (λ q. ap (λ n. same_bytes n q) named) events is.event;
@@ -89,7 +89,7 @@ module _ (k : Known) (classes events : List (List ℕ × ℕ)) (methods : List (
   }
 
   pub indexed_method : (s : Signature) (class : ℕ) (name : List ℕ) → s.class ≡ class → s.name ≡ name → class < length methods → length k.methods + 1 < 2 ^ 16
-      → IsIndexed (record { version = k.version; shape = k.shape; above = k.above; methods = k.methods ++ s ∷ [] }) classes events (set methods class (noted (get_or methods class []) name (length k.methods)))
+      → IsIndexed (record { version = k.version; shape = k.shape; above = k.above; methods = k.methods ++ s ∷ [] }) classes events (set methods class (numbers_with (get_or methods class []) name (length k.methods)))
   indexed_method s class name in_class named there room = record {
     class = is.class;
     event = is.event;

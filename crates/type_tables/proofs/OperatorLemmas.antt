@@ -7,7 +7,7 @@ use Rattle.wave_base.specs.declared.value.Kind.{Kind}
 use Rattle.wave_base.specs.Operators.{operator_names}
 use Rattle.value_ops.specs.declared.row.OpRow.{OpRow}
 use Rattle.value_ops.specs.Operators.{Operator, operators, no_operator, takes_of, gives_of}
-use Rattle.value_ops.specs.Rows.{Row, row_of, row_with, named, three, wave_rows, wave_rows_2, first_builtin, is_builtin}
+use Rattle.value_ops.specs.Rows.{Row, row_of, row_with, named_rows, three, wave_rows, wave_rows_2, first_builtin, is_builtin}
 use Rattle.type_rules.specs.Kinds.{same_kind, has_kind, takes_kinds}
 use Rattle.type_tables.specs.Rows.{IsRow, front, operands, fits}
 
@@ -16,7 +16,7 @@ pub record Tells (o : Operator) (row : Row) : Type 0 where
   pub takes : row.takes ≡ three o.takes
   pub gives : row.gives ≡ o.gives
 
-tells_named : (names : List (List ℕ)) (os : List Operator) (n : ℕ) (row : Row) → slice_get (named names os) n ≡ Some row → Tells (get_or os n no_operator) row
+tells_named : (names : List (List ℕ)) (os : List Operator) (n : ℕ) (row : Row) → slice_get (named_rows names os) n ≡ Some row → Tells (get_or os n no_operator) row
 tells_named [] [] n row h = cc
 tells_named [] (o ∷ os) n row h = cc
 tells_named (name ∷ names) [] n row h = cc

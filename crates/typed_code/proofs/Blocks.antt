@@ -12,7 +12,7 @@ use Rattle.resolved_service.specs.Steps.{is_end}
 use Rattle.code_scheme.specs.Typed.{HasKind, NoneBehind, IsTypedStep, AreTyped, IsTypedElse}
 use Rattle.type_rules.specs.declared.known.Known.{Known}
 use Rattle.type_rules.specs.Demands.{first_wrong}
-use Rattle.type_rules.specs.Here.{Here, Function, counted, behind}
+use Rattle.type_rules.specs.Here.{Here, Function, with_counter, behind}
 use Rattle.type_rules.specs.Exprs.{kind_of, resolve, demands, demands_as}
 use Rattle.type_rules.specs.Stmts.{kind_or_int, after, after_all, after_else, resolve_stmt, resolve_stmts, resolve_else, local_asks, start_of, reach_asks, stmt_demands, stmts_demands, behind_demands, else_demands}
 use Rattle.type_rules.proofs.First.{first_wrong_parts}
@@ -41,7 +41,7 @@ module _ (known : Known) (class function : ℕ) (within : Function) where
         after_else_at (behind h (after_all h body)) (placed (after_all h body) (behind h (after_all h body)) b refl refl refl refl) other
     after_at h at (s.While place test body) = placed (after_all h body) (behind h (after_all h body)) (after_all_at h at body) refl refl refl refl
     after_at h at (s.For place name low high body) =
-        let start = counted h name.text in
+        let start = with_counter h name.text in
         placed (after_all start body) (behind h (after_all start body)) (after_all_at start (placed h start at refl refl refl refl) body) refl refl refl refl
     after_at h at (s.Require place test) = at
     after_at h at (s.Send place label value) = at
@@ -117,7 +117,7 @@ module _ (known : Known) (class function : ℕ) (within : Function) where
           let p = first_wrong_parts (demands_as h k.Bool test) (stmts_demands h body) d in
           (tree_as h at named k.Bool test p.0, behind_are h at named false body g (front h body p.1))
       stmt_is h at named (s.For place name low high body) g d =
-          let start = counted h name.text in
+          let start = with_counter h name.text in
           let pair = record h { slots = h.slots ++ k.Int ∷ k.Int ∷ [] } in
           let p = first_wrong_parts (demands_as h k.Int low) (demands_as h k.Int high ++ (local_asks h name 3 ++ stmts_demands start body)) d in
           let q = first_wrong_parts (demands_as h k.Int high) (local_asks h name 3 ++ stmts_demands start body) p.1 in

@@ -34,7 +34,7 @@ use Rattle.type_rules.specs.declared.meant.Callee.TheVariants as callee
 use Rattle.type_rules.specs.Demands.{Demand, ask, first_wrong}
 use Rattle.type_rules.specs.Kinds.{has_kind, row_of_one, row_of_two, rows_of_sign, rows_of_index, rows_before}
 use Rattle.type_rules.specs.Known.{class_named, field_named, field_kind, method_named, level_of, above_of, signature_at, no_signature}
-use Rattle.type_rules.specs.Here.{Here, rows_of, local_named, of_local, or_else, variable, variable_kind, called, takes, gives, is_earlier, is_child, kind_in}
+use Rattle.type_rules.specs.Here.{Here, rows_of, local_named, of_local, or_else, variable, variable_kind, callee_named, takes, gives, is_earlier, is_child, kind_in}
 use Rattle.type_rules.specs.Exprs.{kind_of, name_kind, binary_kind, child_gives, resolve, resolve_all, or_zero, read_tree, above_tree, row_tree, one, two, binary_tree, call_tree, child_tree, count, above_asks, class_asks, method_asks, child_takes, typed, of_kind, demands, args_demands, demands_as, call_demands, child_demands}
 use Rattle.type_rules.proofs.First.{first_wrong_parts}
 use Rattle.type_laws.proofs.Sound.{AllHold, all_hold, none_wrong}
@@ -196,8 +196,8 @@ module _ (h : Here) (methods : List Method) (locals : List Kind) where
     abbrev Either : Option ℕ → Option ℕ → Option Callee
     Either b m = or_else (option_map callee.Builtin b) (option_map callee.Method m)
 
-    pub call_calls : (at : Span) (name : List ℕ) (es : ExprTrees) → ArgsHave es → first_wrong (call_demands h at name es) ≡ None → Calls (call_tree at (called h name) (resolve_all h es)) (option_and_then (gives h.known) (called h name))
-    call_calls at name es args d = by (first_builtin (rows_of h.known) name) refl (method_named h.known h.class name) refl (all_hold (Asked at es (called h name)) d)
+    pub call_calls : (at : Span) (name : List ℕ) (es : ExprTrees) → ArgsHave es → first_wrong (call_demands h at name es) ≡ None → Calls (call_tree at (callee_named h name) (resolve_all h es)) (option_and_then (gives h.known) (callee_named h name))
+    call_calls at name es args d = by (first_builtin (rows_of h.known) name) refl (method_named h.known h.class name) refl (all_hold (Asked at es (callee_named h name)) d)
       where
         by : (b : Option ℕ) → first_builtin (rows_of h.known) name ≡ b → (m : Option ℕ) → method_named h.known h.class name ≡ m → AllHold (Asked at es (Either b m)) → Calls (call_tree at (Either b m) (resolve_all h es)) (option_and_then (gives h.known) (Either b m))
         by (Some row) i m j d = (builtin_within h.known name row i, refl, args (takes h.known (callee.Builtin row)) (eqb-true _ _ d.1.1.0) (none_wrong (args_demands h (takes h.known (callee.Builtin row)) es) d.1.1.1))
@@ -261,7 +261,7 @@ module _ (h : Here) (methods : List Method) (locals : List Kind) where
             two_has at rows_of_index (kind_in h class name) (kind_of h key) (above_tree h at class name) (resolve h key) (λ x i. above_has levels at class name x a.0 i) (λ x i. expr_has key b.0 x i) kind g
         expr_has (e.Call at name args) d kind g =
             let a = first_wrong_parts (call_demands h at name args) (typed h (e.Call at name args)) d in
-            subst (Calls (call_tree at (called h name) (resolve_all h args))) g (call_calls at name args (λ kinds l d. args_have kinds args l d) a.0)
+            subst (Calls (call_tree at (callee_named h name) (resolve_all h args))) g (call_calls at name args (λ kinds l d. args_have kinds args l d) a.0)
         expr_has (e.ChildCall at class key name args) d kind g =
             let a = first_wrong_parts (child_demands h at class key name args) (typed h (e.ChildCall at class key name args)) d in
             subst (Calls (child_tree h at class name (resolve h key) (resolve_all h args))) g (child_calls at class key name args (λ d x i. expr_has key d x i) (λ kinds l d. args_have kinds args l d) a.0)
@@ -285,7 +285,7 @@ module _ (h : Here) (methods : List Method) (locals : List Kind) where
       pub expr_as : (kind : Kind) (a : ExprTree) → first_wrong (demands_as h kind a) ≡ None → Has (resolve h a) kind
       expr_as kind a d = as_has kind a (λ d x i. expr_has a d x i) d
 
-      pub call_is : (at : Span) (name : List ℕ) (es : ExprTrees) → first_wrong (call_demands h at name es) ≡ None → Calls (call_tree at (called h name) (resolve_all h es)) (option_and_then (gives h.known) (called h name))
+      pub call_is : (at : Span) (name : List ℕ) (es : ExprTrees) → first_wrong (call_demands h at name es) ≡ None → Calls (call_tree at (callee_named h name) (resolve_all h es)) (option_and_then (gives h.known) (callee_named h name))
       call_is at name es d = call_calls at name es (λ kinds l d. args_have kinds es l d) d
 
       pub child_is : (at : Span) (class : List ℕ) (key : ExprTree) (name : List ℕ) (es : ExprTrees) → first_wrong (child_demands h at class key name es) ≡ None → Calls (child_tree h at class name (resolve h key) (resolve_all h es)) (child_gives h class name)

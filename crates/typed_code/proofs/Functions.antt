@@ -18,10 +18,10 @@ use Rattle.type_rules.specs.declared.known.Known.{Known}
 use Rattle.type_rules.specs.declared.error.TypeError.TheVariants.{UnknownName, Mismatch, MissingReply, NotDownward}
 use Rattle.type_rules.specs.Demands.{ask, first_wrong}
 use Rattle.type_rules.specs.Known.{kinds_of, class_named, event_info}
-use Rattle.type_rules.specs.Here.{Here, Function, OfMethod, OfEvent, start, declared, is_child}
+use Rattle.type_rules.specs.Here.{Here, Function, OfMethod, OfEvent, start, with_local, is_child}
 use Rattle.type_rules.specs.Exprs.{or_zero, class_asks, demands_as}
 use Rattle.type_rules.specs.Stmts.{stmts_demands, reach_asks}
-use Rattle.type_rules.specs.Functions.{LastView, MethodView, PhaseView, EventView, after_params, method_params_demands, event_params_demands, last_demands, resolve_last, method_start, method_end, method_body, method_demands, resolve_method, event_start, here_stmts, here_end, here_body, event_ended, ended_behind, inside, phase_body, phase_end, event_end, phase_demands, phases_demands, event_demands, resolve_phase, resolve_phases, resolve_event}
+use Rattle.type_rules.specs.Functions.{LastView, MethodView, PhaseView, EventView, after_params, method_params_demands, event_params_demands, last_demands, resolve_last, method_start, method_end, method_body, method_demands, resolve_method, event_start, here_stmts, here_end, here_body, event_ended, ended_behind, phase_here, phase_body, phase_end, event_end, phase_demands, phases_demands, event_demands, resolve_phase, resolve_phases, resolve_event}
 use Rattle.type_rules.specs.Views.{last_view, method_view, phase_view, event_view}
 use Rattle.type_rules.proofs.First.{first_wrong_parts}
 use Rattle.type_laws.proofs.Sound.{AllHold, all_hold, none_wrong}
@@ -39,7 +39,7 @@ params_slots h [] = none h.slots
     none : (xs : List Kind) → xs ≡ xs ++ []
     none [] = refl
     none (x ∷ xs) = ap (λ l. x ∷ l) (none xs)
-params_slots h (p ∷ ps) = params_slots (declared h p.name.text p.kind) ps ∙ append_assoc h.slots (p.kind ∷ []) (kinds_of ps)
+params_slots h (p ∷ ps) = params_slots (with_local h p.name.text p.kind) ps ∙ append_assoc h.slots (p.kind ∷ []) (kinds_of ps)
 
 params_grow : (h : Here) (ps : List Param) → Grows h.slots (after_params h ps).slots
 params_grow h ps = (kinds_of ps, params_slots h ps)
@@ -47,12 +47,12 @@ params_grow h ps = (kinds_of ps, params_slots h ps)
 params_named : (locals : List Kind) (h : Here) (ps : List Param) → Named locals h.locals → Grows (after_params h ps).slots locals → Named locals (after_params h ps).locals
 params_named locals h [] n g = n
 params_named locals h (p ∷ ps) n g =
-    let one = declared h p.name.text p.kind in
+    let one = with_local h p.name.text p.kind in
     params_named locals one ps (declared_named locals h p.name.text p.kind n (grows_then one.slots (after_params one ps).slots locals (params_grow one ps) g)) g
 
 event_end_grows : (h : Here) (ps : List PhaseTree) → Grows h.slots (event_end h ps).slots
 event_end_grows h [] = grows_none h.slots
-event_end_grows h (p ∷ ps) = grows_then h.slots (phase_end h p).slots (event_end (phase_end h p) ps).slots (after_all_grows (inside h p) (stmts_of p.body)) (event_end_grows (phase_end h p) ps)
+event_end_grows h (p ∷ ps) = grows_then h.slots (phase_end h p).slots (event_end (phase_end h p) ps).slots (after_all_grows (phase_here h p) (stmts_of p.body)) (event_end_grows (phase_end h p) ps)
 
 module _ (known : Known) (methods : List Method) (there : Declared known methods) (levels : LevelsAre known) where
   -- ---- the end of a function
@@ -87,7 +87,7 @@ module _ (known : Known) (methods : List Method) (there : Declared known methods
   params_at : (class function : ℕ) (within : Function) (h : Here) → At known class function within h → (ps : List Param) → At known class function within (after_params h ps)
   params_at class function within h at [] = at
   params_at class function within h at (p ∷ ps) =
-      params_at class function within (declared h p.name.text p.kind) (placed known class function within h (declared h p.name.text p.kind) at refl refl refl refl) ps
+      params_at class function within (with_local h p.name.text p.kind) (placed known class function within h (with_local h p.name.text p.kind) at refl refl refl refl) ps
 
   -- ---- methods
 
@@ -148,24 +148,24 @@ module _ (known : Known) (methods : List Method) (there : Declared known methods
         let within = OfEvent result in
         let on = surely_ends (phase_body h p) in
         let a = first_wrong_parts (phase_demands h false p) (phases_demands (phase_end h p) on ps) d in
-        let b = first_wrong_parts (class_asks h p.at p.class) (demands_as h k.Int p.key ++ stmts_demands (inside h p) (stmts_of p.body)) a.0 in
-        let c = first_wrong_parts (demands_as h k.Int p.key) (stmts_demands (inside h p) (stmts_of p.body)) b.1 in
+        let b = first_wrong_parts (class_asks h p.at p.class) (demands_as h k.Int p.key ++ stmts_demands (phase_here h p) (stmts_of p.body)) a.0 in
+        let c = first_wrong_parts (demands_as h k.Int p.key) (stmts_demands (phase_here h p) (stmts_of p.body)) b.1 in
         let one : phase_view x ≡ resolve_phase h p = cc in
         let rest : map phase_view fs ≡ resolve_phases (phase_end h p) ps = cc in
         let n = or_zero (class_named h.known p.class) in
-        let below : At known n function within (inside h p) = record { same_known = at.same_known; same_class = refl; same_function = at.same_function; same_within = at.same_within } in
+        let below : At known n function within (phase_here h p) = record { same_known = at.same_known; same_class = refl; same_function = at.same_function; same_within = at.same_within } in
         let number : n ≡ x.class.0 = sym (ap (λ (v : PhaseView). v.class) one) in
         let goes : on ≡ surely_ends (steps_in x.body) = sym (ap (λ (v : PhaseView). surely_ends v.body) one) in
         let end = phase_end h p in
         let grown : Grows end.slots locals = grows_then end.slots (event_end end ps).slots locals (event_end_grows end ps) g in
-        let names : Named locals end.locals = after_all_named locals (inside h p) (stmts_of p.body) named grown in (
+        let names : Named locals end.locals = after_all_named locals (phase_here h p) (stmts_of p.body) named grown in (
           subst (IsChild known.shape class) number (class_child class function within h at p.at p.class b.0),
           subst (λ t. HasKind known.shape methods function locals class t k.Int) (sym (ap (λ (v : PhaseView). v.key) one)) (tree_as known class function within methods locals there levels h at named k.Int p.key c.0),
           subst (λ m. AreTyped known.shape methods function locals m (InEvent result) (steps_in x.body)) number
-              (subst (AreTyped known.shape methods function locals n (InEvent result)) (sym (ap (λ (v : PhaseView). v.body) one)) (stmts_are known n function within methods locals there levels (inside h p) below named (stmts_of p.body) grown c.1)),
+              (subst (AreTyped known.shape methods function locals n (InEvent result)) (sym (ap (λ (v : PhaseView). v.body) one)) (stmts_are known n function within methods locals there levels (phase_here h p) below named (stmts_of p.body) grown c.1)),
           subst (λ m. AreTypedPhases known.shape methods function locals m (surely_ends (steps_in x.body)) fs result l) number
               (subst (λ t. AreTypedPhases known.shape methods function locals n t fs result l) goes
-              (phases_are n end (after_all_at known n function within (inside h p) below (stmts_of p.body)) names on ps g fs rest is a.1 f)),
+              (phases_are n end (after_all_at known n function within (phase_here h p) below (stmts_of p.body)) names on ps g fs rest is a.1 f)),
         )
 
   pub event_is : (n : ℕ) (e : EventTree) (made : Event) → length known.methods ≡ length methods → event_view made ≡ resolve_event known e → first_wrong (event_demands known n e) ≡ None → IsTypedEvent known.shape methods (event_info e) made

@@ -9,7 +9,7 @@ use Rattle.wave_base.specs.declared.version.Version.TheVariants.{First, Second}
 use Rattle.wave_base.specs.declared.value.Kind.{Kind}
 use Rattle.wave_base.specs.declared.value.Kind.TheVariants as k
 use Rattle.value_ops.specs.Operators.{Operator, operators, no_operator, takes_of}
-use Rattle.value_ops.specs.Rows.{Row, wave_rows, wave_rows_2, named, first_builtin, is_builtin}
+use Rattle.value_ops.specs.Rows.{Row, wave_rows, wave_rows_2, named_rows, first_builtin, is_builtin}
 use Rattle.wave_base.specs.Operators.{first_names, operator_names}
 use Rattle.type_rules.specs.declared.known.Known.{Known}
 use Rattle.type_rules.specs.Here.{version_rows, rows_of}
@@ -95,7 +95,7 @@ two_row rows (Some a) (Some b) row h =
     record { first = a; second = b; first_is = refl; second_is = refl; takes = takes; within = row_within row a (b ∷ []) takes }
 
 -- a builtin's row
-named_short : (names : List (List ℕ)) (os : List Operator) → length (named names os) ≤ length os
+named_short : (names : List (List ℕ)) (os : List Operator) → length (named_rows names os) ≤ length os
 named_short [] os = omega arith
 named_short (n ∷ ns) [] = omega arith
 named_short (n ∷ ns) (o ∷ os) = omega (arith, named_short ns os)

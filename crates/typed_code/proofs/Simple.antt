@@ -24,7 +24,7 @@ use Rattle.type_rules.specs.declared.meant.Variable.TheVariants as var
 use Rattle.type_rules.specs.Demands.{ask, first_wrong}
 use Rattle.type_rules.specs.Kinds.{has_kind}
 use Rattle.type_rules.specs.Known.{class_named, event_named, event_params, field_named, field_kind}
-use Rattle.type_rules.specs.Here.{Here, Function, OfMethod, OfEvent, variable, variable_kind, called, gives}
+use Rattle.type_rules.specs.Here.{Here, Function, OfMethod, OfEvent, variable, variable_kind, callee_named, gives}
 use Rattle.type_rules.specs.Exprs.{kind_of, resolve, resolve_all, or_zero, call_tree, child_tree, child_gives, above_asks, typed, demands, args_demands, demands_as, call_demands, child_demands}
 use Rattle.type_rules.specs.Stmts.{kind_or_int, own_variable, target_variable, target_kind, own_asks, target_asks, key_demands, set_demands, spawn_demands, end_demands, return_demands, finish_demands, set_step, cut_step}
 use Rattle.type_rules.proofs.First.{first_wrong_parts}
@@ -113,8 +113,8 @@ module _ (h : Here) (methods : List Method) (locals : List Kind) (there : Declar
   done_is at t (Some kind) c = inl (kind, c)
   done_is at t None c = inr c
 
-  pub call_step : (at : Span) (name : List ℕ) (es : ExprTrees) → first_wrong (call_demands h at name es) ≡ None → Step (st.Do at (call_tree at (called h name) (resolve_all h es)))
-  call_step at name es d = done_is at (call_tree at (called h name) (resolve_all h es)) (option_and_then (gives h.known) (called h name)) (call_is h methods locals there levels named at name es d)
+  pub call_step : (at : Span) (name : List ℕ) (es : ExprTrees) → first_wrong (call_demands h at name es) ≡ None → Step (st.Do at (call_tree at (callee_named h name) (resolve_all h es)))
+  call_step at name es d = done_is at (call_tree at (callee_named h name) (resolve_all h es)) (option_and_then (gives h.known) (callee_named h name)) (call_is h methods locals there levels named at name es d)
 
   pub child_step : (at : Span) (class : List ℕ) (key : ExprTree) (name : List ℕ) (es : ExprTrees) → first_wrong (child_demands h at class key name es) ≡ None → Step (st.Do at (child_tree h at class name (resolve h key) (resolve_all h es)))
   child_step at class key name es d = done_is at (child_tree h at class name (resolve h key) (resolve_all h es)) (child_gives h class name) (child_is h methods locals there levels named at class key name es d)

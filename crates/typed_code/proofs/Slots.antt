@@ -5,7 +5,7 @@ use Rattle.wave_base.specs.declared.value.Kind.TheVariants as k
 use Rattle.mace_ast.specs.Stmts as s
 use Rattle.mace_ast.specs.Stmts.{StmtTree, StmtTrees, ElseTree, no_stmts, stmt_and, no_else, otherwise}
 use Rattle.type_rules.specs.declared.meant.Local.{Local}
-use Rattle.type_rules.specs.Here.{Here, counted, behind}
+use Rattle.type_rules.specs.Here.{Here, with_counter, behind}
 use Rattle.type_rules.specs.Exprs.{kind_of}
 use Rattle.type_rules.specs.Stmts.{kind_or_int, after, after_all, after_else}
 use Rattle.typed_code.proofs.Exprs.{Named}
@@ -57,7 +57,7 @@ mutual
   after_grows h (s.While place test body) = after_all_grows h body
   after_grows h (s.For place name low high body) =
       let pair = h.slots ++ k.Int ∷ k.Int ∷ [] in
-      let start = counted h name.text in
+      let start = with_counter h name.text in
       grows_then h.slots start.slots (after_all start body).slots (grows_then h.slots pair start.slots (grows_more h.slots (k.Int ∷ k.Int ∷ [])) (grows_more pair (k.Int ∷ []))) (after_all_grows start body)
   after_grows h (s.Require place test) = grows_none h.slots
   after_grows h (s.Send place label value) = grows_none h.slots

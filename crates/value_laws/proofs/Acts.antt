@@ -17,7 +17,7 @@ use Rattle.wave_base.specs.Text.{IsPrintable, IsText}
 use Rattle.value_ops.specs.Kinds.{Answer}
 use Rattle.value_ops.specs.Operators.{apply_row}
 use Rattle.resolved_service.specs.Meaning.{State, Leave, Returned, Finished, Outcome, Done, Trapped, Left, Act, and_then, ◌>>◌, give, answer, with_world, tick, enter_at, choose, set_local, put_field, demand, row_add, row_lt, while_turns, for_test, for_body, with_blanks}
-use Rattle.resolved_service.specs.World.{World, blank_of, nothing, is_true, key_of, child, took, changed, with_entered, has, entering, sending, spawning, read_field, read_above, set_field}
+use Rattle.resolved_service.specs.World.{World, blank_of, nothing, is_true, key_of, child, after_tick, after_change, with_entered, has, entering, sending, spawning, read_field, read_above, set_field}
 use Rattle.snapshot_text.specs.Shots.{IsValue}
 use Rattle.value_laws.proofs.Rows.{IsGiven, row_given}
 use Rattle.value_laws.specs.Values.{IsKeyed, AreValues, BoundedContexts, BoundedCall, BoundedMessage}
@@ -113,10 +113,10 @@ answered row operands at a f g st h = then_good IsValue Any (answer (apply_row r
 pub set_good : (slot : ℕ) (v : Value) → IsValue v → Safe Any (set_local slot v)
 set_good slot v g st h = (tt, record { locals = All-set IsValue st.locals slot v g h.locals; world = h.world })
 
-moved : (w : World) → IsBounded w → IsBounded (changed w)
+moved : (w : World) → IsBounded w → IsBounded (after_change w)
 moved w h = record { tree = h.tree; entered = h.entered; messages = h.messages; created = h.created }
 
-pub back_good : {A : Type 0} (S : A → Type 0) (a : A) (st : State) → S a → Sound st → Good S (Done a (record { locals = st.locals; world = changed st.world }))
+pub back_good : {A : Type 0} (S : A → Type 0) (a : A) (st : State) → S a → Sound st → Good S (Done a (record { locals = st.locals; world = after_change st.world }))
 back_good S a st s h = (s, record { locals = h.locals; world = moved st.world h.world })
 
 entered_good : (q : Path) (w : World) → IsKeyed q → IsBounded w → IsBounded (with_entered q w)
@@ -130,9 +130,9 @@ entered_good q w g h = record {
 pub enter_good : (q : Path) (at : Span) → IsKeyed q → Safe Any (enter_at q at)
 unfolding entering
 enter_good q at g st h =
-    elim (has st.world.held q) as (λ b. Good Any (with_world (if b then Ok (changed st.world) else (if nat_lt (length st.world.entered) CONTEXTS then Ok (changed (with_entered q st.world)) else Err trap.Reach)) at st)) [
+    elim (has st.world.held q) as (λ b. Good Any (with_world (if b then Ok (after_change st.world) else (if nat_lt (length st.world.entered) CONTEXTS then Ok (after_change (with_entered q st.world)) else Err trap.Reach)) at st)) [
       | true ↦ (tt, record { locals = h.locals; world = moved st.world h.world })
-      | false ↦ elim (nat_lt (length st.world.entered) CONTEXTS) as (λ b. Good Any (with_world (if b then Ok (changed (with_entered q st.world)) else Err trap.Reach) at st)) [
+      | false ↦ elim (nat_lt (length st.world.entered) CONTEXTS) as (λ b. Good Any (with_world (if b then Ok (after_change (with_entered q st.world)) else Err trap.Reach) at st)) [
         | true ↦ (tt, record { locals = h.locals; world = moved (with_entered q st.world) (entered_good q st.world g h.world) })
         | false ↦ h.world
       ]
@@ -173,7 +173,7 @@ pub demand_good : (b : Bool) (at : Span) → Safe Any (demand b at)
 demand_good true at st h = (tt, h)
 demand_good false at st h = h.world
 
-took_good : (n : ℕ) (at : Span) (st : State) → Sound st → Good Any (with_world (took n st.world) at st)
+took_good : (n : ℕ) (at : Span) (st : State) → Sound st → Good Any (with_world (after_tick n st.world) at st)
 took_good zero at st h = h.world
 took_good (suc n) at st h = (tt, record { locals = h.locals; world = record { tree = (h.world).tree; entered = (h.world).entered; messages = (h.world).messages; created = (h.world).created } })
 

@@ -15,8 +15,8 @@ use Rattle.resolved_service.specs.declared.service.Last.{Last}
 use Rattle.resolved_service.specs.declared.service.Method.{Method}
 use Rattle.resolved_service.specs.declared.service.Phase.{Phase}
 use Rattle.resolved_service.specs.declared.service.Resolved.{Resolved}
-use Rattle.resolved_service.specs.Jobs.{call_meaning, ended, first_world, meant_by, meant_event, replied}
-use Rattle.resolved_service.specs.Meaning.{State, Returned, Finished, Outcome, Done, Trapped, Left, Act, give, tick, enter_at, set_local, put_field, row_put, row_cut, worth, value, values, for_test, for_body, maybe_value, effect, effects, else_effect, last_value, with_locals, with_blanks, run_method, called, phases_run, event_run}
+use Rattle.resolved_service.specs.Jobs.{call_meaning, event_end, first_world, meant_by, meant_event, outcome_of_reply}
+use Rattle.resolved_service.specs.Meaning.{State, Returned, Finished, Outcome, Done, Trapped, Left, Act, give, tick, enter_at, set_local, put_field, row_put, row_cut, worth, value, values, for_test, for_body, maybe_value, effect, effects, else_effect, last_value, with_locals, with_blanks, run_method, call_act, phases_run, event_run}
 use Rattle.resolved_service.specs.Steps.{Step, SetLocal, SetField, PutLocal, PutField, CutLocal, CutField, If, While, For, Require, Send, Spawn, Do, Return, Finish, Steps, no_steps, step, Else, no_else, otherwise, steps_in}
 use Rattle.resolved_service.specs.View.{Tree, Const, Local, Field, Above, Op, And, Or, Call, Child, Trees, no_trees, tree, tree_of}
 use Rattle.resolved_service.specs.World.{World, nothing, is_true, child, releasing, read_field}
@@ -146,29 +146,29 @@ module _ (call : ℕ → Path → List Value → Act (Option Value)) (calls : (m
 -- ---- calls and events
 
 module _ (service : Resolved) (bounded : BoundedService service) where
-  called_good : (n m : ℕ) (q : Path) (given : List Value) → IsKeyed q → AreValues given → Safe IsMaybe (called service.methods n m q given)
-  unfolding called
+  called_good : (n m : ℕ) (q : Path) (given : List Value) → IsKeyed q → AreValues given → Safe IsMaybe (call_act service.methods n m q given)
+  unfolding call_act
   called_good zero m q given keyed g st h = h.world
   called_good (suc n) m q given keyed g st h =
-      method_good (called service.methods n) (called_good n) n (slice_get service.methods m) (λ x e. all_at BoundedMethod service.methods m x e bounded.methods) q given keyed g st h
+      method_good (call_act service.methods n) (called_good n) n (slice_get service.methods m) (λ x e. all_at BoundedMethod service.methods m x e bounded.methods) q given keyed g st h
 
   root_keyed : IsKeyed []
   root_keyed = All-nil (λ (s : PathStep). FitsSigned w64 s.key)
 
   event_good : (n : ℕ) (e : Event) (given : List Value) (w : World) → BoundedEvent e → AreValues given → IsBounded w → Good IsMaybe (event_run service.methods n e given w)
   event_good n e given w b g h =
-      then_good Any IsMaybe (effects (called service.methods n) n [] (steps_in e.here) (record { locals = with_blanks given e.locals; world = w })) _
-      (effects_good (called service.methods n) (called_good n) [] root_keyed n (steps_in e.here) b.here _ (record { locals = with_blanks_are given e.locals g; world = h }))
-      (λ u _. phases_good (called service.methods n) (called_good n) n e.phases e.last b.phases b.last [] root_keyed)
+      then_good Any IsMaybe (effects (call_act service.methods n) n [] (steps_in e.here) (record { locals = with_blanks given e.locals; world = w })) _
+      (effects_good (call_act service.methods n) (called_good n) [] root_keyed n (steps_in e.here) b.here _ (record { locals = with_blanks_are given e.locals g; world = h }))
+      (λ u _. phases_good (call_act service.methods n) (called_good n) n e.phases e.last b.phases b.last [] root_keyed)
 
   first_good : (generation : ℕ) (before : t.Tree (List Value)) → BoundedContexts before → IsBounded (first_world generation before)
   first_good generation before h = record { tree = h; entered = All-cons IsKeyed [] [] root_keyed (All-nil IsKeyed); messages = All-nil BoundedMessage; created = All-nil BoundedCall }
 
-  replied_is : (r : Option Value) → IsMaybe r → BoundedOutcome (replied r)
+  replied_is : (r : Option Value) → IsMaybe r → BoundedOutcome (outcome_of_reply r)
   replied_is None h = tt
   replied_is (Some x) h = h
 
-  ended_is : (r : Option Value) (w : World) → IsMaybe r → IsBounded w → BoundedRan (ended r w).ran
+  ended_is : (r : Option Value) (w : World) → IsMaybe r → IsBounded w → BoundedRan (event_end r w).ran
   ended_is r w f h = record { tree = h.tree; result = record { outcome = replied_is r f; messages = h.messages; created = h.created }; entered = h.entered }
 
   meant_is : (o : Outcome (Option Value)) → Good IsMaybe o → BoundedRan (meant_by o).ran

@@ -27,7 +27,7 @@ use Rattle.mace_grammar.specs.Part.{Part}
 use Rattle.mace_grammar.specs.Words as w
 use Rattle.mace_grammar.specs.Words.{Edition, edition_of}
 use Rattle.type_rules.specs.declared.known.Known.{Known}
-use Rattle.type_rules.specs.Functions.{LastView, MethodView, PhaseView, EventView, event_end, event_start, here_end, inside, method_end, method_start, phase_end, resolve_event, resolve_last, resolve_phases}
+use Rattle.type_rules.specs.Functions.{LastView, MethodView, PhaseView, EventView, event_end, event_start, here_end, phase_here, method_end, method_start, phase_end, resolve_event, resolve_last, resolve_phases}
 use Rattle.type_rules.specs.Here.{Here}
 use Rattle.type_rules.specs.Known.{Entry, classes_in, classes_of, entry, field_info, known_of, methods_in, methods_of, service_classes, value_of}
 use Rattle.type_rules.specs.Services.{ResolvedView, resolve_context, resolve_contexts, resolve_methods, resolve_service}
@@ -118,7 +118,7 @@ phases_are h [] fs = tt
 phases_are h (p ∷ ps) fs =
     let f : IsPhase p = fs.0 in
     let q : IsExpr p.key = f.key in
-    (record { key = q.so h; body = stmts_bounded (inside h p) p.body f.body }, phases_are (phase_end h p) ps fs.1)
+    (record { key = q.so h; body = stmts_bounded (phase_here h p) p.body f.body }, phases_are (phase_end h p) ps fs.1)
 
 here_is : (h : Here) (o : Option (List StmtTree)) → IfThere (Each IsStmt) o → BoundedSteps (resolve_stmts h (option_map_or stmts_of o no_stmts))
 here_is h None f = tt

@@ -20,7 +20,7 @@ use Rattle.mace_grammar.specs.Part.{Part}
 use Rattle.mace_grammar.specs.Words as w
 use Rattle.mace_grammar.specs.Words.{Edition}
 use Rattle.type_rules.specs.Exprs.{kind_of, resolve}
-use Rattle.type_rules.specs.Here.{called, variable}
+use Rattle.type_rules.specs.Here.{callee_named, variable}
 use Rattle.value_laws.proofs.Bounded.{IsExpr, args_bounded, binary_bounded, called_bounded, read_bounded}
 use Rattle.mace_grammar.proofs.Parts.{Each, IfThere, Gives, any, each, either, down, in_parens, next, none_not, perhaps, some_same, token, whole}
 
@@ -48,7 +48,7 @@ above_index_is : (c n : Name) (key : ExprTree) → IsExpr key → IsExpr (e.Abov
 above_index_is c n key f = record { so = λ h. (tt, (f.so h, tt)) }
 
 call_is : (f : Name) (args : List ExprTree) → Each IsExpr args → IsExpr (e.Call f.at f.text (exprs_of args))
-call_is f args fs = record { so = λ h. called_bounded f.at (called h f.text) _ (args_bounded h args fs) }
+call_is f args fs = record { so = λ h. called_bounded f.at (callee_named h f.text) _ (args_bounded h args fs) }
 
 child_call_is : (c f : Name) (key : ExprTree) (args : List ExprTree) → IsExpr key → Each IsExpr args → IsExpr (e.ChildCall c.at c.text key f.text (exprs_of args))
 child_call_is c f key args q fs = record { so = λ h. (q.so h, args_bounded h args fs) }

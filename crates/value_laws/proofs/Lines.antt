@@ -15,7 +15,7 @@ use Rattle.wave_base.specs.declared.value.Value.{Value}
 use Rattle.wave_base.specs.declared.value.Value.TheVariants as value
 use Rattle.wave_base.specs.Text.{IsPrintable}
 use Rattle.wave_text.specs.Lines.{lines_of}
-use Rattle.wave_text.specs.Numbers.{negative, number_of, positive, whole_of}
+use Rattle.wave_text.specs.Numbers.{negative_int, number_of, positive_int, whole_of}
 use Rattle.path_text.specs.declared.written.Written.{Written}
 use Rattle.path_text.specs.Paths.{child_class, path_of, step_below, step_with, steps_below}
 use Rattle.script_reader.proofs.FitLemmas.{batch_fits}
@@ -34,9 +34,9 @@ use Rattle.script_reader.specs.declared.said.Said.TheVariants.{Nothing, Unknown,
 use Rattle.script_reader.specs.declared.taken.Taken.{Taken}
 use Rattle.script_reader.specs.declared.taken.Taken.TheVariants.{Skipped, Hosts, Event, Settle}
 use Rattle.script_reader.specs.Forms.{HasForm, form_rest, form_word, literal_piece, literal_pieces, more_pieces}
-use Rattle.script_reader.specs.Judged.{as_event, call_at, call_with, event_lines, has_begun, has_name, hosts_of, judged_event, judged_form, move_to, params_in, requested, value_of, values_of}
+use Rattle.script_reader.specs.Judged.{as_event, call_at, call_with, event_lines, has_begun, has_name, hosts_of, judged_event, judged_form, move_to, params_in, requested_call, value_of, values_of}
 use Rattle.script_reader.specs.Pieces.{ArePiecesOf, IsPiece, without_blanks}
-use Rattle.script_reader.specs.Scripts.{Goes, IsRead, IsSaid, IsScriptOf, closed_batches, judged, judged_after, open_batch, refused, script_of}
+use Rattle.script_reader.specs.Scripts.{Goes, IsRead, IsSaid, IsScriptOf, closed_batches, judgment, judged_after, open_batch, error_at, script_of}
 use Rattle.snapshot_text.specs.Shots.{IsValue}
 use Rattle.mace_grammar.proofs.Parts.{Each}
 use Rattle.value_laws.specs.Values.{AreValues, BoundedLine, BoundedScript, IsKeyed}
@@ -55,7 +55,7 @@ whole_fits : (bs : List ℕ) → IfSome (whole_of bs) (FitsSigned w64)
 whole_fits [] = tt
 whole_fits (b ∷ bs) = by (b == 45)
   where
-    by : (t : Bool) → IfSome (if t then negative (number_of bs) else positive (number_of (b ∷ bs))) (FitsSigned w64)
+    by : (t : Bool) → IfSome (if t then negative_int (number_of bs) else positive_int (number_of (b ∷ bs))) (FitsSigned w64)
     by true = chosen (FitsSigned w64) (nat_le (number_of bs) (2 ^ 63)) (neg_ℤ (pos (number_of bs))) (λ e. minus_fits (number_of bs) (leb-true (number_of bs) (2 ^ 63) e))
     by false = chosen (FitsSigned w64) (nat_lt (number_of (b ∷ bs)) (2 ^ 63)) (pos (number_of (b ∷ bs))) (λ e. record { sfits = ltb-true (number_of (b ∷ bs)) (2 ^ 63) e })
 
@@ -109,7 +109,7 @@ called : (event : ℕ) (o : Option (List Value)) → IfSome o AreValues → IsLi
 called event None h = tt
 called event (Some args) h = h
 
-requested_is : (shape : Shape) (name : List ℕ) (ls : List Literal) → Each IsLiteral ls → IsLine (requested shape name ls)
+requested_is : (shape : Shape) (name : List ℕ) (ls : List Literal) → Each IsLiteral ls → IsLine (requested_call shape name ls)
 requested_is shape name ls hs = by (position (has_name name) shape.events)
   where
     by : (o : Option ℕ) → IsLine (call_at shape o ls)
@@ -199,12 +199,12 @@ form_is shape hosts begun events text (form.Hosts n) h =
     (one_taken (nat_le 1 (number_of n) && nat_le (number_of n) HOSTS) (Ok (Hosts (number_of n))) (Err HostRange) tt tt)
 form_is shape hosts begun events text (form.Request name ls) h =
     let pieces : Each IsPiece (Run (form_word (form.Request name ls)) ∷ Run name ∷ Open ∷ literal_pieces ls) = pieces_are (without_blanks text) (Run (form_word (form.Request name ls)) ∷ form_rest (form.Request name ls)) h.cut in
-    event_is events (requested shape name ls) (requested_is shape name ls (literals_are ls pieces.1.1.1))
+    event_is events (requested_call shape name ls) (requested_is shape name ls (literals_are ls pieces.1.1.1))
 form_is shape hosts begun events text (form.Move steps to) h = event_is events (move_to hosts (path_of shape steps) (number_of to)) (moved_is hosts (path_of shape steps) (number_of to) (path_keyed shape steps))
 form_is shape hosts begun events text form.Snapshot h = event_is events (Ok line.Snapshot) tt
 form_is shape hosts begun events text form.Settle h = tt
 
-said_is : (shape : Shape) (hosts : ℕ) (begun : Bool) (events : ℕ) (text : List ℕ) (s : Said) → IsSaid text s → IsTaken (judged shape hosts begun events s)
+said_is : (shape : Shape) (hosts : ℕ) (begun : Bool) (events : ℕ) (text : List ℕ) (s : Said) → IsSaid text s → IsTaken (judgment shape hosts begun events s)
 said_is shape hosts begun events text Nothing h = tt
 said_is shape hosts begun events text Unknown h = tt
 said_is shape hosts begun events text (Says f) h = form_is shape hosts begun events text f h.1
@@ -234,7 +234,7 @@ module _ (shape : Shape) (earlier : Earlier) (script : Script) where
       subst BoundedScript (sym same) (batch_fits BoundedLine (closed_batches before) (open_batch before) (closed_bounded before hs) (open_bounded before hs))
   read_bounded before hs (l ∷ ls) h =
       elim (judged_after shape earlier before h.0) as (λ (x : Result Taken Fault).
-      IsTaken x → Goes x (λ t. IsRead shape earlier (t ∷ before) ls (Ok script)) (λ f. ◌≡◌ {A = Result Script ScriptError} (Ok script) (Err (refused f (length before + 1)))) → BoundedScript script) [
+      IsTaken x → Goes x (λ t. IsRead shape earlier (t ∷ before) ls (Ok script)) (λ f. ◌≡◌ {A = Result Script ScriptError} (Ok script) (Err (error_at f (length before + 1)))) → BoundedScript script) [
         | Ok t ↦ λ b k. read_bounded (t ∷ before) (b, hs) ls k
         | Err f ↦ λ b e. cc
       ] (said_is shape (hosts_of earlier before) (has_begun earlier before) (event_lines earlier before) l h.0 h.1) h.2

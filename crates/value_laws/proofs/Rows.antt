@@ -32,7 +32,7 @@ use Rattle.wave_base.specs.Text.{IsPrintable, IsText}
 use Rattle.value_ops.proofs.IntLemmas.{is_int_fits}
 use Rattle.value_ops.proofs.TextLemmas.{printable_number}
 use Rattle.value_ops.specs.Kinds.{Answer, Of, From, answer_of, at_values, value_of}
-use Rattle.value_ops.specs.Meanings.{or_trap, is_int, in_int, is_zero, joined, part, put, key_at, total}
+use Rattle.value_ops.specs.Meanings.{or_trap, is_int, in_int, is_zero, joined_text, part, put, key_at, total}
 use Rattle.value_ops.specs.Numbers.{is_number, number_in}
 use Rattle.value_ops.specs.Operators.{Operator, operators, no_operator, apply_row}
 use Rattle.snapshot_text.specs.Shots.{IsValue}
@@ -92,7 +92,7 @@ count_fits n h = record { sfits = omega (arith, h) }
 
 -- ---- texts
 
-both_texts : (s t : List ℕ) → IsText s → IsText t → IsAnswer k.Text (joined s t)
+both_texts : (s t : List ℕ) → IsText s → IsText t → IsAnswer k.Text (joined_text s t)
 both_texts s t f g =
     tested k.Text (nat_le (length (s ++ t)) TEXT_BYTES) (s ++ t) trap.TooLong (λ e. record { printable = All-append IsPrintable s t f.printable g.printable; short = leb-true (length (s ++ t)) TEXT_BYTES e })
 

@@ -16,7 +16,7 @@ use Rattle.mace_grammar.specs.Part.{Part, maybe}
 use Rattle.mace_grammar.specs.Words as w
 use Rattle.mace_grammar.specs.Words.{Edition}
 use Rattle.type_rules.specs.Exprs.{resolve, resolve_all}
-use Rattle.type_rules.specs.Here.{behind, called, counted}
+use Rattle.type_rules.specs.Here.{behind, callee_named, with_counter}
 use Rattle.type_rules.specs.Stmts.{after_all, target_variable}
 use Rattle.value_laws.proofs.Bounded.{IsExpr, IsStmt, args_bounded, called_bounded, cut_bounded, else_bounded, maybe_bounded, set_bounded, stmts_bounded}
 use Rattle.value_laws.proofs.Exprs.{IsToken, IsWord, any_arguments, any_expr, any_key}
@@ -43,7 +43,7 @@ set_is : (at : Span) (x : Target) (place : Option ExprTree) (value : ExprTree) �
 set_is at x place value f v = record { so = λ h. set_bounded h at (target_variable h x) place (resolve h value) f (v.so h) }
 
 call_is : (f : Name) (args : List ExprTree) → Each IsExpr args → IsStmt (st.Call f.at f.text args)
-call_is f args fs = record { so = λ h. called_bounded f.at (called h f.text) (resolve_all h (exprs_of args)) (args_bounded h args fs) }
+call_is f args fs = record { so = λ h. called_bounded f.at (callee_named h f.text) (resolve_all h (exprs_of args)) (args_bounded h args fs) }
 
 child_call_is : (c f : Name) (place : ExprTree) (args : List ExprTree) → IsExpr place → Each IsExpr args → IsStmt (st.ChildCall c.at c.text place f.text args)
 child_call_is c f place args q fs = record { so = λ h. (q.so h, args_bounded h args fs) }
@@ -61,7 +61,7 @@ while_is : (at : Span) (test : ExprTree) (body : List StmtTree) → IsExpr test 
 while_is at test body f b = record { so = λ h. (f.so h, stmts_bounded h body b) }
 
 for_is : (at : Span) (n : Name) (low high : ExprTree) (body : List StmtTree) → IsExpr low → IsExpr high → Each IsStmt body → IsStmt (st.For at n low high (stmts_of body))
-for_is at n low high body f t b = record { so = λ h. (f.so h, t.so h, stmts_bounded (counted h n.text) body b) }
+for_is at n low high body f t b = record { so = λ h. (f.so h, t.so h, stmts_bounded (with_counter h n.text) body b) }
 
 -- ---- the label of a message
 

@@ -19,7 +19,7 @@ use Rattle.wave_base.specs.Values.{kind_of}
 use Rattle.value_ops.specs.Kinds.{Answer, Of, value_of, answer_of}
 use Rattle.value_ops.specs.Meanings.{is_int, is_zero}
 use Rattle.value_ops.specs.Numbers.{number_in}
-use Rattle.value_ops.specs.Rows.{Row, wave_rows, wave_rows_2, three, row_with, named}
+use Rattle.value_ops.specs.Rows.{Row, wave_rows, wave_rows_2, three, row_with, named_rows}
 use Rattle.value_ops.specs.Operators.{Operator, no_operator, takes_of, operators, operator_at, gives_of, apply_row}
 
 kind_of-value_of : (kind : Kind) (x : Of kind) → kind_of (value_of kind x) ≡ kind
@@ -108,7 +108,7 @@ pub str_reads : (z : ℤ) (t : List ℕ) → FitsSigned w64 z → apply_row 26 (
 unfolding apply_row operators
 str_reads z t h e = ap number_in (sym (text_is (signed_decimal z) t e)) ∙ number_in-signed_decimal z h
 
-named_at : (names : List (List ℕ)) (os : List Operator) (i : ℕ) → i < length names → i < length os → slice_get (named names os) i ≡ Some (row_with (get_or names i []) (get_or os i no_operator))
+named_at : (names : List (List ℕ)) (os : List Operator) (i : ℕ) → i < length names → i < length os → slice_get (named_rows names os) i ≡ Some (row_with (get_or names i []) (get_or os i no_operator))
 named_at [] os i h k = absurd (omega arith)
 named_at (name ∷ names) [] i h k = absurd (omega arith)
 named_at (name ∷ names) (o ∷ os) zero h k = refl

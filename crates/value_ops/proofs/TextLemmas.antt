@@ -7,13 +7,13 @@ use Rattle.std.specs.Fmt.{decimal, signed_decimal}
 use Rattle.std.specs.List.{All}
 use Rattle.wave_base.specs.declared.trap.TrapKind.TheVariants.{TooLong}
 use Rattle.wave_base.specs.Text.{IsPrintable, IsText}
-use Rattle.value_ops.specs.Meanings.{joined}
+use Rattle.value_ops.specs.Meanings.{joined_text}
 
 module _ (s t : List ℕ) where
-  pub joined_short : length s + length t ≤ 1000 → joined s t ≡ Ok (s ++ t)
+  pub joined_short : length s + length t ≤ 1000 → joined_text s t ≡ Ok (s ++ t)
   joined_short h = rw length-append (grind (arith, nat_tests))
 
-  pub joined_long : 1000 < length s + length t → joined s t ≡ Err TooLong
+  pub joined_long : 1000 < length s + length t → joined_text s t ≡ Err TooLong
   joined_long h = rw length-append (grind (arith, nat_tests))
 
 printable_digit : (d : ℕ) → d < 10 → IsPrintable (48 + d)

@@ -31,18 +31,18 @@ abbrev pub row_with : List ℕ → Operator → Row
 row_with name o = record { name = name; builtin = o.builtin; takes = three o.takes; gives = o.gives }
 
 -- each operator under its name, as far as there are names
-abbrev pub named : List (List ℕ) → List Operator → List Row
-named [] os = []
-named (name ∷ names) [] = []
-named (name ∷ names) (o ∷ os) = row_with name o ∷ named names os
+abbrev pub named_rows : List (List ℕ) → List Operator → List Row
+named_rows [] os = []
+named_rows (name ∷ names) [] = []
+named_rows (name ∷ names) (o ∷ os) = row_with name o ∷ named_rows names os
 
 -- the rows of version 1 of the language
 unfoldable pub wave_rows : List Row
-wave_rows = named first_names operators
+wave_rows = named_rows first_names operators
 
 -- and those of version 2, which has them all
 unfoldable pub wave_rows_2 : List Row
-wave_rows_2 = named operator_names operators
+wave_rows_2 = named_rows operator_names operators
 
 abbrev pub is_builtin : List ℕ → Row → Bool
 is_builtin name row = row.builtin && same_bytes row.name name

@@ -47,10 +47,10 @@ fn cat(alloc: Global, s: &Txt, t: &Txt) -> Result<Value, OpError>
     if s.bytes().len() + t.bytes().len() > TEXT_BYTES {
         return Err(OpError::Trap(TrapKind::TooLong));
     }
-    Ok(Value::Str(joined(alloc, s, t)?))
+    Ok(Value::Str(joined_text(alloc, s, t)?))
 }
 
-fn joined(alloc: Global, s: &Txt, t: &Txt) -> Result<Txt, OutOfMemory>
+fn joined_text(alloc: Global, s: &Txt, t: &Txt) -> Result<Txt, OutOfMemory>
     requires { length s.now + length t.now ≤ TEXT_BYTES }
     ensures { IfOk result (λ joined. joined ≡ s.now ++ t.now) }
 {
@@ -84,7 +84,7 @@ fn part_of(bytes: &[u8], from: i64, to: i64) -> Option<&[u8]>
 }
 
 /// An int as a decimal number.
-pub fn written(alloc: Global, n: i64) -> Result<Value, OpError>
+pub fn text_of_int(alloc: Global, n: i64) -> Result<Value, OpError>
     ensures { Answers (apply_row STR (Value.Int n ∷ [])) result }
 {
     let mut buffer = Buffer::new();

@@ -16,7 +16,7 @@ use crate::operands::{flag, int, table, text};
 use crate::rows::{BEQ, LEN, SIZE, STR};
 use crate::sums::sum;
 use crate::takes::{Takes, takes_of};
-use crate::texts::{apply_texts, part, written};
+use crate::texts::{apply_texts, part, text_of_int};
 use std::alloc::Global;
 use wave_base::{OPERATORS, Table, TrapKind, Txt, Value};
 
@@ -55,7 +55,7 @@ fn apply_any_int(alloc: Global, row: usize, a: i64) -> Result<Value, OpError>
     ensures { Answers (apply_row row (Value.Int a ∷ [])) result }
 {
     if row == STR {
-        written(alloc, a)
+        text_of_int(alloc, a)
     } else {
         Ok(apply_int(row, a)?)
     }

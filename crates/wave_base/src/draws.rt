@@ -1,7 +1,7 @@
 //! Drawn numbers, the same for each machine.
 
 ghost use Rattle.std.specs.Prelude.{◌≡◌, ◌%◌, ◌<◌};
-ghost use Rattle.wave_base.specs.Draws.{next_draw, drawn};
+ghost use Rattle.wave_base.specs.Draws.{next_draw, draw_from};
 
 // The generator's multiplier and increment, modulo 2^64.
 const MULTIPLIER: u64 = 6_364_136_223_846_793_005;
@@ -19,7 +19,7 @@ impl Draws {
     // The next number, of 31 bits.
     fn draw(&mut self) -> u64
         ensures state { self.new.state ≡ next_draw self.old.state }
-        ensures drawn { result ≡ drawn self.old.state }
+        ensures drawn { result ≡ draw_from self.old.state }
     {
         self.state = MULTIPLIER.wrapping_mul(self.state).wrapping_add(INCREMENT);
         self.state / (1 << 33)
@@ -29,7 +29,7 @@ impl Draws {
     pub fn draw_below(&mut self, bound: u64) -> u64
         requires { 0 < bound }
         ensures state { self.new.state ≡ next_draw self.old.state }
-        ensures drawn { result ≡ drawn self.old.state % bound }
+        ensures drawn { result ≡ draw_from self.old.state % bound }
         ensures below { result < bound }
     {
         self.draw() % bound

@@ -6,7 +6,7 @@ ghost use Rattle.wave_board.specs.Always.{InBoards, ShortJournals, Waits};
 
 use crate::known::idle_hands_are_empty;
 use plan_actors::{PlanActors, runs_are_short};
-use wave_theory::{complete, empty_at_end, listed, never_stuck};
+use wave_theory::{complete, empty_at_end, lists_are_exact, never_stuck};
 
 /// Where some job is not committed and a worker is idle, it can take a label of the first ticket that is not committed or of one before
 /// it, or a segment of such a ticket is out. Where a board answers that all is finished, all jobs are committed, nothing is under way, and
@@ -25,7 +25,7 @@ pub fn workers_wait_for_segments()
     ensures { Waits }
 {
     idle_hands_are_empty();
-    listed::<PlanActors>();
+    lists_are_exact::<PlanActors>();
     empty_at_end::<PlanActors>();
     never_stuck::<PlanActors>();
 }

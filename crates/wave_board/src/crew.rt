@@ -68,7 +68,7 @@ impl Crew {
     }
 
     /// Of how many tickets lines were handed out.
-    pub fn told(&self) -> u32
+    pub fn told_count(&self) -> u32
         ensures { result ≡ self.now.told }
     {
         self.told

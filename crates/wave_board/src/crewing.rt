@@ -18,10 +18,10 @@ impl<'p> Board<'p> {
     }
 
     /// How many tickets are committed in this run.
-    pub fn committed(&self) -> usize
+    pub fn committed_count(&self) -> usize
         ensures { (o : Origin) (s : TheState) → IsAt self.now o s → s.head.done ≡ result }
     {
-        self.machine.committed()
+        self.machine.committed_count()
     }
 
     /// What its workers left for each other.

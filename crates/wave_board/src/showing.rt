@@ -24,7 +24,7 @@ impl<'p> Board<'p> {
         if !self.is_due(written) {
             return Ok(None);
         }
-        let lines = self.machine.shown(written, MOST)?;
+        let lines = self.machine.shown_lines(written, MOST)?;
         Ok(Some(lines))
     }
 
@@ -33,8 +33,8 @@ impl<'p> Board<'p> {
         requires { CanTell self.now written }
         ensures { (o : Origin) (s : TheState) → IsAt self.now o s → IsTrue result ↔ IsDue self.now o s written }
     {
-        let new = self.machine.committed() - written as usize;
-        if self.machine.finished() {
+        let new = self.machine.committed_count() - written as usize;
+        if self.machine.is_finished() {
             new > 0
         } else {
             new >= ENOUGH

@@ -37,7 +37,7 @@ impl<'p> Board<'p> {
         ensures took { IfOk result (λ work. Took self.old worker self.new work) }
         ensures same { OnErr result (history_of self.new ≡ history_of self.old) }
     {
-        if self.machine.finished() {
+        if self.machine.is_finished() {
             return Ok(Turn::Finished);
         }
         match self.choice(worker) {

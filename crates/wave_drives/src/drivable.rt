@@ -8,11 +8,11 @@ ghost use Rattle.wave_effects.specs.Machines.{IsReached, TheState};
 ghost use Rattle.wave_drives.specs.inner.Drivable.{CanDrive};
 
 use plan_actors::PlanActors;
-use wave_theory::listed;
+use wave_theory::lists_are_exact;
 
 // A state that labels lead to has what a drive needs.
 pub(crate) fn states_drive()
     ensures { (plan : Plan) (start : Start) (labels : List Label) (s : TheState) → Fits plan → FitsStart plan start → IsReached plan start labels s → CanDrive plan start s }
 {
-    listed::<PlanActors>();
+    lists_are_exact::<PlanActors>();
 }

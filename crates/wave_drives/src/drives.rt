@@ -38,7 +38,7 @@ use wave_theory::{empty_at_end, rules_pick};
 fn next(machine: &Machine, rule: PickRule, draw: &mut u64) -> Result<Option<Label>, OutOfMemory>
     ensures { IfOk result (λ o. (start : start.Start) (s : TheState) → Stands machine.now.kept start s → rule_of rule draw.old s (enabled_in machine.now.kept.plan s) ≡ (draw.new, option_map label_of o)) }
 {
-    let labels = machine.enabled()?;
+    let labels = machine.enabled_labels()?;
     Ok(pick(machine, rule, draw, labels.as_slice()))
 }
 
@@ -119,12 +119,12 @@ pub fn drive_with(
     let machine = Machine::new_at(alloc, plan, start)?;
     let mut walk = Walk::new(alloc, machine, plan.workers)?;
     let labels = drive_on(alloc, &mut walk, plan, start, rule)?;
-    let finished = told(walk.machine)?;
+    let finished = finished_of(walk.machine)?;
     Ok((finished, Seq::from_vec(labels)))
 }
 
 // What a finished run tells.
-fn told(machine: Machine) -> Result<Finished, OutOfMemory>
+fn finished_of(machine: Machine) -> Result<Finished, OutOfMemory>
     requires { (start : start.Start) × (s : TheState) × Stands machine.kept start s × runs.Finished (plan_actors machine.kept.plan.program) machine.kept.plan.workers s }
     ensures { IfOk result (λ f. (start : start.Start) (s : TheState) → Stands machine.entry.kept start s → f ≡ finished_of (code_ran machine.entry.kept.plan.program) machine.entry.kept.plan.program.shape start machine.entry.kept.plan.script) }
 {

@@ -26,7 +26,7 @@ use Rattle.wave_states.specs.States.{set as put, Column}
 use Rattle.wave_theory.proofs.Basics.{none_not, path_is, some_same}
 use Rattle.wave_theory.proofs.Paths.{has_append, or_left, or_right, path_swap}
 use Rattle.code_actor.specs.CodeActors.{Fields}
-use Rattle.wave_effects.specs.inner.Beginnings.{first_column, kid_of, no_column, placed}
+use Rattle.wave_effects.specs.inner.Beginnings.{first_column, kid_of, no_column, placed_column}
 use Rattle.wave_effects.proofs.StoreParts.{TheEntry}
 use Rattle.wave_effects.proofs.Placing.{kids_are, path_of, shown_at, skipped, take_next}
 
@@ -154,11 +154,11 @@ module _ (shape : Shape) (hosts : ℕ) (start : Start) (begins : IsStart shape h
     column_is = ap₂ (λ b n. column_with (entry_at_start (begin_of shape start) x.path) x.path b n) is_there host_is
 
     -- it was not placed before
-    pub not_yet : placed (begin_of shape start) (take i start.places) x.path ≡ no_column
+    pub not_yet : placed_column (begin_of shape start) (take i start.places) x.path ≡ no_column
     not_yet = ap (λ b. if b then column_at_start (begin_of shape start) x.path else no_column) (absent_before start.places i x sorted at)
 
     -- with it, all before it and it are placed
-    pub one_more : (p : Path) → put path_eq (placed (begin_of shape start) (take i start.places)) x.path (column_at_start (begin_of shape start) x.path) p ≡ placed (begin_of shape start) (take (i + 1) start.places) p
+    pub one_more : (p : Path) → put path_eq (placed_column (begin_of shape start) (take i start.places)) x.path (column_at_start (begin_of shape start) x.path) p ≡ placed_column (begin_of shape start) (take (i + 1) start.places) p
     one_more p = by_test (path_eq x.path p) refl ∙ ap (λ b. if b then column_at_start (begin_of shape start) p else no_column) (sym all)
       where
         front : List Path
@@ -173,11 +173,11 @@ module _ (shape : Shape) (hosts : ℕ) (start : Start) (begins : IsStart shape h
         or_false : (a b : Bool) → b ≡ false → (a || b) ≡ a
         or_false a b e = grind arith
 
-        by_test : (b : Bool) → path_eq x.path p ≡ b → cond b (column_at_start (begin_of shape start) x.path) (placed (begin_of shape start) (take i start.places) p) ≡ (if list_any (path_eq p) front || path_eq p x.path then column_at_start (begin_of shape start) p else no_column)
+        by_test : (b : Bool) → path_eq x.path p ≡ b → cond b (column_at_start (begin_of shape start) x.path) (placed_column (begin_of shape start) (take i start.places) p) ≡ (if list_any (path_eq p) front || path_eq p x.path then column_at_start (begin_of shape start) p else no_column)
         by_test true e = ap (column_at_start (begin_of shape start)) (path_is x.path p e) ∙ sym (ap (λ b. if b then column_at_start (begin_of shape start) p else no_column) (or_true (list_any (path_eq p) front) (path_eq p x.path) (path_swap p x.path ∙ e)))
         by_test false e = ap (λ b. if b then column_at_start (begin_of shape start) p else no_column) (sym (or_false (list_any (path_eq p) front) (path_eq p x.path) (path_swap p x.path ∙ e)))
 
-  pub all_placed : (p : Path) → placed (begin_of shape start) start.places p ≡ column_at_start (begin_of shape start) p
+  pub all_placed : (p : Path) → placed_column (begin_of shape start) start.places p ≡ column_at_start (begin_of shape start) p
   all_placed p = by_there (list_any (path_eq p) (map path_of start.places)) refl
     where
       root_is : (q : Path) → is_root q ≡ true → q ≡ []

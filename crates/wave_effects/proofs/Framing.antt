@@ -19,7 +19,7 @@ use Rattle.wave_states.specs.Steps.{landed, with_holders}
 use Rattle.wave_theory.proofs.Basics.{none_not, some_same}
 use Rattle.wave_effects.specs.declared.actor.Actor.{Actor}
 use Rattle.wave_effects.specs.Machines.{Kept}
-use Rattle.wave_effects.specs.Apart.{AsksAs, AnswersAs, Moves, grown}
+use Rattle.wave_effects.specs.Apart.{AsksAs, AnswersAs, Moves, new_cells}
 use Rattle.wave_effects.proofs.Parts.{at_set}
 use Rattle.wave_effects.proofs.Reached.{has_it}
 use Rattle.wave_effects.proofs.StoreParts.{Writes, get_there, landed_here}
@@ -85,7 +85,7 @@ has_landed st st' p e lands =
 
 -- ---- a label that puts another cell in the place of one
 
-module _ (m m' : Kept) (l : Label) (more i : ℕ) (c c' : Cell Actor) (at : m.first + i ≡ ticket_of l.act) (as_before : grown l.act ≡ 0) (there : slice_get m.cells i ≡ Some c) (first : m'.first ≡ m.first)
+module _ (m m' : Kept) (l : Label) (more i : ℕ) (c c' : Cell Actor) (at : m.first + i ≡ ticket_of l.act) (as_before : new_cells l.act ≡ 0) (there : slice_get m.cells i ≡ Some c) (first : m'.first ≡ m.first)
     (cells : m'.cells ≡ slice_set m.cells i c') (few : length c'.outbox.mails ≤ more + length c.outbox.mails) where
   cell_after : (j : ℕ) (x x' : Cell Actor) → slice_get m.cells j ≡ Some x → slice_get m'.cells j ≡ Some x' → ((i ≡ j) × (x' ≡ c')) ⊎ (x' ≡ x)
   cell_after j x x' was is = after_set m.cells i c' j x x' was (sym (ap (λ cs. slice_get cs j) cells) ∙ is)
@@ -109,7 +109,7 @@ module _ (m m' : Kept) (l : Label) (more i : ℕ) (c c' : Cell Actor) (at : m.fi
   as_long : length m'.cells ≡ length m.cells
   as_long = ap length cells ∙ length-set m.cells i c'
 
-  as_many : length m'.cells ≡ grown l.act + length m.cells
+  as_many : length m'.cells ≡ new_cells l.act + length m.cells
   as_many = let long = as_long in omega (arith, long, as_before)
 
   none_new : (x : Cell Actor) → slice_get m'.cells (length m.cells) ≡ Some x → length x.outbox.mails ≤ 1
@@ -177,7 +177,7 @@ module _ (m m' : Kept) (l : Label) (more i : ℕ) (c c' : Cell Actor) (at : m.fi
 -- ---- a label on the head
 
 -- an Admit puts one cell behind the others
-pub moved_admit : (m m' : Kept) (l : Label) (c : Cell Actor) → grown l.act ≡ 1 → m'.first ≡ m.first → m'.cells ≡ m.cells ++ c ∷ [] → m'.stores ≡ m.stores → length c.outbox.mails ≤ 1 → Moves m m' l 0
+pub moved_admit : (m m' : Kept) (l : Label) (c : Cell Actor) → new_cells l.act ≡ 1 → m'.first ≡ m.first → m'.cells ≡ m.cells ++ c ∷ [] → m'.stores ≡ m.stores → length c.outbox.mails ≤ 1 → Moves m m' l 0
 moved_admit m m' l c grows first cells stores few = record {
   others = record {
     first = first;
@@ -207,7 +207,7 @@ moved_admit m m' l c grows first cells stores few = record {
     store_after h st st' was is = some_same st' st (sym is ∙ ap (λ ss. slice_get ss h) stores ∙ was)
 
 -- a label that changes no cell and no store
-pub moved_none : (m m' : Kept) (l : Label) → grown l.act ≡ 0 → m'.first ≡ m.first → m'.cells ≡ m.cells → m'.stores ≡ m.stores → Moves m m' l 0
+pub moved_none : (m m' : Kept) (l : Label) → new_cells l.act ≡ 0 → m'.first ≡ m.first → m'.cells ≡ m.cells → m'.stores ≡ m.stores → Moves m m' l 0
 moved_none m m' l stays first cells stores = record {
   others = record {
     first = first;

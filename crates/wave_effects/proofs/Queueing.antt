@@ -12,7 +12,7 @@ use Rattle.host_map.specs.declared.store.Found.TheVariants.{Here}
 use Rattle.host_map.specs.Stores.{Stores, IsAt, Matches, has, find_in, found_by, mark_of}
 use Rattle.migration_core.specs.declared.mail.Letter.{Letter}
 use Rattle.migration_core.specs.declared.mail.Letter.TheVariants as letter
-use Rattle.migration_core.specs.Letters.{Says, asked}
+use Rattle.migration_core.specs.Letters.{Says, ask_of}
 use Rattle.event_cells.specs.declared.cell.Cell.{Cell}
 use Rattle.event_cells.specs.declared.outbox.Envelope.{Envelope}
 use Rattle.event_cells.specs.Cells.{Carries, IsEnvelope, is_over}
@@ -43,7 +43,7 @@ use Rattle.wave_effects.proofs.Taking.{Laws, now, after}
 
 -- ---- letters
 
-says_asks : (l : Letter) (a : Ask) → Says l (theory.Enter a) → asked l ≡ Some a
+says_asks : (l : Letter) (a : Ask) → Says l (theory.Enter a) → ask_of l ≡ Some a
 says_asks (letter.Enter number followed peek) a h = cc
 says_asks letter.Visit a h = cc
 says_asks letter.Back a h = cc

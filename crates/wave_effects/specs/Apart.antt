@@ -38,15 +38,15 @@ pub record AsksTheSame (m m' : Kept) : Type 0 where
   pub settled : length m'.settled.results ≡ length m.settled.results
 
 -- an Admit brings a cell
-abbrev pub grown : Act → ℕ
-grown (Admit t) = 1
-grown _ = 0
+abbrev pub new_cells : Act → ℕ
+new_cells (Admit t) = 1
+new_cells _ = 0
 
 -- A label changes the cell of its ticket, which has so many mails more at most, and what its host has of its context. The mark of
 -- that stays where the context is away before and after; where it is there an Enter is delivered, whatever the mark says.
 pub record Moves (m m' : Kept) (l : Label) (more : ℕ) : Type 0 where
   pub others : LeavesOthers m m' (λ t. t ≡ ticket_of l.act) (λ h q. (h ≡ l.host) × (q ≡ path_of l.act))
-  pub as_many : length m'.cells ≡ grown l.act + length m.cells
+  pub as_many : length m'.cells ≡ new_cells l.act + length m.cells
   pub mails : (i : ℕ) (c c' : Cell Actor) → slice_get m.cells i ≡ Some c → slice_get m'.cells i ≡ Some c' → length c'.outbox.mails ≤ more + length c.outbox.mails
   pub new : (c' : Cell Actor) → slice_get m'.cells (length m.cells) ≡ Some c' → length c'.outbox.mails ≤ 1
   pub mark : (st st' : Stores) → slice_get m.stores l.host ≡ Some st → slice_get m'.stores l.host ≡ Some st' → has (path_of l.act) st ≡ false → has (path_of l.act) st' ≡ false

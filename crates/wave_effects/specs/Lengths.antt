@@ -7,7 +7,7 @@ use Rattle.wave_states.specs.Begins.{Begin}
 use Rattle.wave_states.specs.Kinds.{Kind}
 use Rattle.wave_states.specs.Labels.{Label}
 use Rattle.wave_states.specs.Runs as runs
-use Rattle.wave_theory.specs.Counted.{passed}
+use Rattle.wave_theory.specs.Counted.{pass_count}
 use Rattle.code_actor.specs.CodeActors.{Fields}
 use Rattle.plan_actors.specs.Efforts.{least_labels, most_labels}
 use Rattle.plan_actors.specs.PlanActors.{Actor, plan_actors, plan_kind}
@@ -17,7 +17,7 @@ use Rattle.wave_effects.specs.Machines.{IsReached, Kept, Stands, TheState}
 -- two labels for each ticket, three for each segment and two for each context that a ticket enters, besides the Passes; and no more in all
 -- than if each Enter were passed as often as contexts are sent on
 pub record IsMeasured (plan : Plan) (start : Start) (labels : List Label) : Type 0 where
-  pub besides_passes : length labels ≡ least_labels plan start + passed labels
+  pub besides_passes : length labels ≡ least_labels plan start + pass_count labels
   pub most : length labels ≤ most_labels plan start
 
 -- So it is with each run that is finished.

@@ -10,20 +10,20 @@ use Rattle.wave_effects.specs.declared.prepared.Prepared.{Prepared}
 use Rattle.wave_effects.specs.declared.prepared.Prepared.TheVariants as part
 
 -- what a box has, where there is one
-abbrev pub unboxed : {X : Type 0} → Option (Box X) → Option X
-unboxed None = None
-unboxed (Some b) = Some b.value
+abbrev pub unboxed_value : {X : Type 0} → Option (Box X) → Option X
+unboxed_value None = None
+unboxed_value (Some b) = Some b.value
 
 abbrev pub cell_in : Prepared → Option (Cell Actor)
 cell_in (part.Event c) = Some c.value
 cell_in _ = None
 
 abbrev pub entry_in : Prepared → Option (Option Entry)
-entry_in (part.Entry e) = Some (unboxed e)
+entry_in (part.Entry e) = Some (unboxed_value e)
 entry_in _ = None
 
 abbrev pub copy_in : Prepared → Option (Option Record)
-copy_in (part.Copy r) = Some (unboxed r)
+copy_in (part.Copy r) = Some (unboxed_value r)
 copy_in _ = None
 
 abbrev pub calls_in : Prepared → Option (List Call)

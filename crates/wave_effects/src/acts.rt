@@ -11,7 +11,7 @@ ghost use Rattle.wave_effects.specs.Made.{IsPart};
 
 use crate::engine::Engine;
 use crate::lease::Lease;
-use crate::prepared::{Prepared, boxed};
+use crate::prepared::{Prepared, box_part};
 use std::alloc::Global;
 use wave_base::OutOfMemory;
 use wave_labels::{Act, Label};
@@ -35,7 +35,7 @@ impl<'p> Engine<'p> {
             }
             Act::Queue(mail, path) => {
                 let entry = self.prepare_queue(alloc, host, mail, &path)?;
-                Ok(Prepared::Entry(boxed(alloc, entry)?))
+                Ok(Prepared::Entry(box_part(alloc, entry)?))
             }
             Act::Grant(ticket, path) => {
                 self.prepare_grant(host, ticket, &path)?;
@@ -47,7 +47,7 @@ impl<'p> Engine<'p> {
             }
             Act::Start(ticket, path) => {
                 let copy = self.prepare_start(alloc, host, ticket, path)?;
-                Ok(Prepared::Copy(boxed(alloc, copy)?))
+                Ok(Prepared::Copy(box_part(alloc, copy)?))
             }
             Act::Commit(_) => Ok(Prepared::Created(self.prepare_commit(alloc)?)),
             _ => Ok(Prepared::Room),

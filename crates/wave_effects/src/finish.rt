@@ -27,7 +27,7 @@ impl<'p> Engine<'p> {
     ghost use Rattle.wave_effects.specs.Keeping.{kept_of};
 
     /// Whether nothing can be done any more, and no segment is out.
-    pub fn finished(&self) -> bool
+    pub fn is_finished(&self) -> bool
         ensures { (start : Start) (s : TheState) → Stands (kept_of self.now) start s → IsTrue result ↔ runs.Finished (plan_actors self.now.plan.now.program) self.now.plan.now.workers s }
     {
         states_are_known();
@@ -42,14 +42,14 @@ impl<'p> Engine<'p> {
         ensures told { IfOk result (λ f. (start : Start) (s : TheState) → Stands (kept_of self.entry) start s → f ≡ finished_of (code_ran self.entry.plan.now.program) self.entry.plan.now.program.shape start self.entry.plan.now.script) }
         ensures back { IfErr result (λ e. e.0 ≡ self.entry) }
     {
-        match self.told(alloc) {
+        match self.finished_of(alloc) {
             Ok(finished) => Ok(finished),
             Err(error) => Err((self, error)),
         }
     }
 
     // Copies what a finished run gives.
-    fn told(&self, alloc: Global) -> Result<Finished, OutOfMemory>
+    fn finished_of(&self, alloc: Global) -> Result<Finished, OutOfMemory>
         requires finished { (start : Start) × (s : TheState) × Stands (kept_of self.now) start s × runs.Finished (plan_actors self.now.plan.now.program) self.now.plan.now.workers s }
         ensures { IfOk result (λ f. (start : Start) (s : TheState) → Stands (kept_of self.now) start s → f ≡ finished_of (code_ran self.now.plan.now.program) self.now.plan.now.program.shape start self.now.plan.now.script) }
     {
@@ -63,7 +63,7 @@ impl<'p> Engine<'p> {
         let loads = loads(alloc, &self.stores, &places, Ticket(self.first))?;
         Ok(Finished {
             results: results(alloc, &self.settled)?,
-            made: made(alloc, &self.settled)?,
+            made: made_tickets(alloc, &self.settled)?,
             names: names(alloc, &self.kinds)?,
             places: Seq::from_vec(places),
             shots: Seq::from_vec(shots),
@@ -108,7 +108,7 @@ fn results(alloc: Global, settled: &[Settled]) -> Result<Seq<EventResult>, OutOf
 }
 
 // Copies of the tickets of what they created.
-fn made(alloc: Global, settled: &[Settled]) -> Result<Seq<Seq<Ticket>>, OutOfMemory>
+fn made_tickets(alloc: Global, settled: &[Settled]) -> Result<Seq<Seq<Ticket>>, OutOfMemory>
     ensures { IfOk result (λ made. made ≡ map (λ x. x.made) settled.now) }
 {
     let mut made = Vec::new(alloc);

@@ -17,7 +17,7 @@ use crate::actor::Actor;
 use crate::engine::Engine;
 use crate::known::heads_are_known;
 use crate::laws::states_are_known;
-use crate::places::{listed, stored};
+use crate::places::{listed_places, stored_place};
 use event_cells::{Cell, Envelope, Outbox};
 use host_map::HostStore;
 use migration_core::Letter;
@@ -69,11 +69,11 @@ fn owners(
     ensures stored { IfOk result (λ owners. (h : ℕ) (x : Stores) (p : path.Path) → slice_get stores.now h ≡ Some x → has p x ≡ true → list_any (path_eq p) (map path_of owners.items) ≡ true) }
     ensures sent { IfOk result (λ owners. (p : path.Path) (h : host.Host) → IsSent cells.now p h → list_any (path_eq p) (map path_of owners.items) ≡ true) }
 {
-    let mut hosts = stored(alloc, stores)?;
+    let mut hosts = stored_place(alloc, stores)?;
     for cell in cells {
         add_carried(&mut hosts, &cell.outbox)?;
     }
-    let owners = listed(alloc, &hosts)?;
+    let owners = listed_places(alloc, &hosts)?;
     Ok(owners)
 }
 
@@ -94,7 +94,7 @@ fn add_carried(hosts: &mut BTreeMap<Path, Host>, outbox: &Outbox) -> Result<(), 
 fn add_one(hosts: &mut BTreeMap<Path, Host>, envelope: &Envelope) -> Result<(), OutOfMemory>
     ensures { OnOk result (hosts.new.entries ≡ with_place hosts.old.entries (carried_in envelope.now)) }
 {
-    match carried(envelope) {
+    match carried_place(envelope) {
         Some(place) => {
             hosts.insert(place.path, place.host)?;
             Ok(())
@@ -104,7 +104,7 @@ fn add_one(hosts: &mut BTreeMap<Path, Host>, envelope: &Envelope) -> Result<(), 
 }
 
 // Where a mail brings its context, if it does.
-fn carried(envelope: &Envelope) -> Option<Place>
+fn carried_place(envelope: &Envelope) -> Option<Place>
     ensures { result ≡ carried_in envelope.now }
 {
     match &envelope.letter {

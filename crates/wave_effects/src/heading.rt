@@ -85,7 +85,7 @@ impl<'p> Engine<'p> {
         states_are_known();
         heads_are_known();
         let result = self.commits.commit_next().unwrap().result;
-        let made = self.head.created(created);
+        let made = self.head.add_created(created);
         self.settled.push_reserved(Settled { result, made });
         let all_done = self.settled.len() == self.cells.len();
         begin_batch(&mut self.head, all_done);

@@ -21,7 +21,7 @@ ghost use Rattle.wave_states.specs.Desks.{Desk, send};
 ghost use Rattle.wave_states.specs.Steps.{Part, departed, host_or, with_body, with_entry};
 ghost use Rattle.wave_base.specs.Paths.{parent_of};
 ghost use Rattle.wave_effects.specs.declared.actor.Actor as actors;
-ghost use Rattle.wave_effects.specs.inner.Leaving.{CanGoOn, HasLeft, HasMail, IsNear, Tells, away_from, into, onward, raised, sent_off, stopped_by};
+ghost use Rattle.wave_effects.specs.inner.Leaving.{CanGoOn, HasLeft, HasMail, IsNear, Tells, away_from, into, onward, raised_child, sent_off, stopped_by};
 
 use crate::actor::Actor;
 use crate::lease::Lease;
@@ -92,7 +92,7 @@ fn into(
 // Gives the next number for a child, which is born at this host where it is new.
 fn raise(children: &mut Children, step: Step, host: Host) -> Result<Child, OutOfMemory>
     requires { (c : kids.Child) → child_at children.old step ≡ Some c → c.given + 1 < 2 ^ 64 }
-    ensures child { IfOk result (λ c. c ≡ raised (child_at children.old step) host.0) }
+    ensures child { IfOk result (λ c. c ≡ raised_child (child_at children.old step) host.0) }
     ensures ok { IfOk result (λ c. children.new ≡ with_child children.old step c) }
     ensures err { OnErr result (children.new ≡ children.old) }
 {
@@ -311,7 +311,7 @@ pub(crate) fn settle(commits: &mut Commits, ticket: Ticket, result_of: Option<Ev
     ensures results { (u : ℕ) → map.get commits.new.results u ≡ set nat_eq (map.get commits.old.results) ticket.0 result_of u }
 {
     match result_of {
-        Some(ended) => commits.done(ticket, ended),
+        Some(ended) => commits.add_result(ticket, ended),
         None => {}
     }
 }

@@ -5,7 +5,7 @@ ghost use Rattle.wave_effects.specs.Lengths.{FinishedRunsAreMeasured, HoldsOver}
 ghost use Rattle.wave_effects.specs.Orders.{EitherOrder};
 
 use plan_actors::{PlanActors, runs_are_short};
-use wave_theory::{bounded, independent};
+use wave_theory::{independent, label_bounds};
 
 /// A run that is finished has two labels for each ticket, three for each segment and two for each context that a
 /// ticket enters, besides its Passes. An Enter is passed at most as often as its context was moved, which bounds the Passes too.

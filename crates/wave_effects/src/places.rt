@@ -24,13 +24,13 @@ pub(crate) fn places(alloc: Global, stores: &[HostStore]) -> Result<Vec<Place>, 
     ensures there { IfOk result (λ places. All (IsPlace stores.now) places.items) }
     ensures all { IfOk result (λ places. (h : ℕ) (x : Stores) (p : path.Path) → slice_get stores.now h ≡ Some x → has p x ≡ true → list_any (path_eq p) (map path_of places.items) ≡ true) }
 {
-    let hosts = stored(alloc, stores)?;
-    let places = listed(alloc, &hosts)?;
+    let hosts = stored_place(alloc, stores)?;
+    let places = listed_places(alloc, &hosts)?;
     Ok(places)
 }
 
 // The contexts that are there by their paths.
-pub(crate) fn stored(
+pub(crate) fn stored_place(
     alloc: Global,
     stores: &[HostStore],
 ) -> Result<BTreeMap<Path, Host>, OutOfMemory>
@@ -65,7 +65,10 @@ fn add_all(
 }
 
 // The places in order.
-pub(crate) fn listed(alloc: Global, hosts: &BTreeMap<Path, Host>) -> Result<Vec<Place>, OutOfMemory>
+pub(crate) fn listed_places(
+    alloc: Global,
+    hosts: &BTreeMap<Path, Host>,
+) -> Result<Vec<Place>, OutOfMemory>
     ensures places { IfOk result (λ places. places.items ≡ map placed_at hosts.now.entries) }
     ensures ordered { IsStrictlySortedBy path_cmp (keys hosts.now) }
 {

@@ -1,7 +1,7 @@
 //! All memory that a label takes, taken before anything changes.
 
 ghost use Rattle.std.specs.Prelude.{◌≡◌, Some, IsSome, IfOk};
-ghost use Rattle.wave_effects.specs.Taken.{calls_in, cell_in, copy_in, entry_in, unboxed};
+ghost use Rattle.wave_effects.specs.Taken.{calls_in, cell_in, copy_in, entry_in, unboxed_value};
 
 use crate::actor::Actor;
 use context_queue::Entry;
@@ -43,7 +43,7 @@ impl Prepared {
         ensures { entry_in self ≡ Some result }
     {
         match self {
-            Prepared::Entry(entry) => opened(entry),
+            Prepared::Entry(entry) => open_box(entry),
             _ => unreachable!(),
         }
     }
@@ -53,7 +53,7 @@ impl Prepared {
         ensures { copy_in self ≡ Some result }
     {
         match self {
-            Prepared::Copy(copy) => opened(copy),
+            Prepared::Copy(copy) => open_box(copy),
             _ => unreachable!(),
         }
     }
@@ -70,8 +70,8 @@ impl Prepared {
 }
 
 // What a box has, where there is one.
-fn opened<T>(part: Option<Box<T>>) -> Option<T>
-    ensures { result ≡ unboxed part }
+fn open_box<T>(part: Option<Box<T>>) -> Option<T>
+    ensures { result ≡ unboxed_value part }
 {
     match part {
         Some(part) => Some(Box::into_inner(part)),
@@ -80,8 +80,11 @@ fn opened<T>(part: Option<Box<T>>) -> Option<T>
 }
 
 // A part in a box, where there is one.
-pub(crate) fn boxed<T: Drop>(alloc: Global, part: Option<T>) -> Result<Option<Box<T>>, OutOfMemory>
-    ensures { IfOk result (λ b. unboxed b ≡ part) }
+pub(crate) fn box_part<T: Drop>(
+    alloc: Global,
+    part: Option<T>,
+) -> Result<Option<Box<T>>, OutOfMemory>
+    ensures { IfOk result (λ b. unboxed_value b ≡ part) }
 {
     match part {
         Some(part) => Ok(Some(Box::new(alloc, part)?)),

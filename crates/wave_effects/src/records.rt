@@ -39,7 +39,7 @@ pub(crate) fn copied(alloc: Global, entry: &Entry) -> Result<Option<Record>, Out
 }
 
 // What a worker gets: the copy, where there is one, else the record itself, which is away then.
-pub(crate) fn taken(entry: &mut Entry, copy: Option<Record>) -> Record
+pub(crate) fn take_record(entry: &mut Entry, copy: Option<Record>) -> Record
     requires { is_some entry.old.body ≡ true }
     ensures { (looks : Bool) (en : theory.Entry Fields) (body : theory.Record Fields) → copy ≡ copy_of looks entry.old.body → StandsFor entry.old en → en.body ≡ Some body
         → (record_of result ≡ seen_by looks body) × StandsFor entry.new (with_body en (left_by looks body)) }

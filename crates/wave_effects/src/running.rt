@@ -23,7 +23,7 @@ use crate::kept::Out;
 use crate::laws::states_are_known;
 use crate::lease::Lease;
 use crate::leaving::{aim, leave, settle};
-use crate::records::{copied, only_looks, taken};
+use crate::records::{copied, only_looks, take_record};
 use crate::refused::Refused;
 use event_cells::Envelope;
 use host_map::place_of;
@@ -80,7 +80,7 @@ impl<'p> Engine<'p> {
         let actor = cell.start(path).unwrap();
         let store = &mut self.stores[host.0 as usize];
         let entry = store.entry_mut(&path);
-        let body = taken(entry, copy);
+        let body = take_record(entry, copy);
         self.hands[worker.0 as usize] = Some(Out { ticket, path });
         Lease {
             worker,

@@ -22,7 +22,12 @@ impl<'p> Engine<'p> {
     ghost use Rattle.wave_effects.specs.Keeping.{kept_of};
 
     /// Copies of the committed tickets without the first `from`, at most so many.
-    pub fn shown(&self, alloc: Global, from: u32, most: usize) -> Result<Seq<Shown>, OutOfMemory>
+    pub fn shown_lines(
+        &self,
+        alloc: Global,
+        from: u32,
+        most: usize,
+    ) -> Result<Seq<Shown>, OutOfMemory>
         requires stands { (start : Start) × (s : TheState) × Stands (kept_of self.now) start s }
         requires from { from ≤ length self.now.settled.items }
         ensures count { IfOk result (λ xs. length xs ≡ min most (length self.now.settled.items - from)) }

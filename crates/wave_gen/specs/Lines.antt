@@ -3,24 +3,24 @@ use Rattle.std.specs.Prelude.{ℕ, ◌+◌, ◌%◌, ◌==◌, nat_lt, if◌then
 use Rattle.std.specs.Fmt.{decimal}
 use Rattle.wave_gen.specs.declared.line.Line.{Line}
 use Rattle.wave_gen.specs.declared.line.Line.TheVariants.{Move, Pair, Settle, Buy}
-use Rattle.wave_base.specs.Draws.{after, drawn}
+use Rattle.wave_base.specs.Draws.{after, draw_from}
 
 -- the first draw, of 20, chooses what line it is
 abbrev pub choice : ℕ → ℕ
-choice x = drawn x % 20
+choice x = draw_from x % 20
 
 -- a hall of 24, a host of 4, a stall of 25, and 1 to 9 of what is sold there
 abbrev pub hall : ℕ → ℕ
-hall x = drawn x % 24
+hall x = draw_from x % 24
 
 abbrev pub host : ℕ → ℕ
-host x = drawn x % 4
+host x = draw_from x % 4
 
 abbrev pub stall : ℕ → ℕ
-stall x = drawn x % 25
+stall x = draw_from x % 25
 
 abbrev pub count : ℕ → ℕ
-count x = drawn x % 9 + 1
+count x = draw_from x % 9 + 1
 
 -- the line that is drawn from x: three of twenty are moves, one a pair, one ends the batch, and all others buy
 abbrev pub line_from : ℕ → Line

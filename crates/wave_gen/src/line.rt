@@ -34,7 +34,7 @@ pub enum Line {
 
 impl Line {
     /// The line that the next draws say.
-    pub fn drawn(draws: &mut Draws) -> Line
+    pub fn draw(draws: &mut Draws) -> Line
         ensures line { result ≡ line_from draws.old.state }
         ensures state { draws.new.state ≡ after (draws_for (choice draws.old.state)) draws.old.state }
     {

@@ -43,7 +43,7 @@ fn put_lines(
     ensures { OnOk result (out.new.items ≡ out.old.items ++ drawn_text count draws.old.state) }
 {
     for _ in 0..count {
-        Line::drawn(draws).put(alloc, out)?;
+        Line::draw(draws).put(alloc, out)?;
     }
     Ok(())
 }

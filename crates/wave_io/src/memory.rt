@@ -3,7 +3,7 @@
 ghost use Rattle.std.specs.Prelude.{◌≡◌, ◌-◌, ◌<◌, ◌≤◌, ◌⊎◌, ◌↔◌, min, [], length, Some, OnOk, OnErr, IfOk, IsErr, Contains};
 ghost use Rattle.std.specs.Io.{ReadsAtMost};
 ghost use Rattle.std.specs.Io.KnownBytes.{ReadConsumes, WriteAppends};
-ghost use Rattle.wave_io.specs.Causes.{HasCause, raised};
+ghost use Rattle.wave_io.specs.Causes.{HasCause, raised_count};
 
 use crate::ends::{Failed, Sink, Source};
 use crate::sure::fill;
@@ -65,11 +65,11 @@ impl Source for MemSource {
         ensures cause { HasCause self.old.faults self.new.faults result }
 
         // It fails exactly at the calls of the list, and else gives as much as it may.
-        ensures failed { IsErr result ↔ Contains self.old.failing (raised self.old.calls) }
+        ensures failed { IsErr result ↔ Contains self.old.failing (raised_count self.old.calls) }
         ensures count { IfOk result (λ n. n ≡ min (min (length buf.old) self.old.most) (length self.old.left)) }
-        ensures calls { self.new.calls ≡ raised self.old.calls }
+        ensures calls { self.new.calls ≡ raised_count self.old.calls }
         ensures same { (self.new.most ≡ self.old.most) × (self.new.failing ≡ self.old.failing) }
-        ensures on_err { OnErr result (self.new.faults ≡ raised self.old.faults) }
+        ensures on_err { OnErr result (self.new.faults ≡ raised_count self.old.faults) }
         ensures on_ok { OnOk result (self.new.faults ≡ self.old.faults) }
     {
         self.calls = self.calls.saturating_add(1);
@@ -149,11 +149,11 @@ impl Sink for MemSink {
         ensures cause { HasCause self.old.faults self.new.faults result }
 
         // It fails exactly at the calls of the list and where no room is left, and else takes as much as it may.
-        ensures failed { IsErr result ↔ ((self.old.room ≤ length self.old.written) ⊎ Contains self.old.failing (raised self.old.calls)) }
+        ensures failed { IsErr result ↔ ((self.old.room ≤ length self.old.written) ⊎ Contains self.old.failing (raised_count self.old.calls)) }
         ensures count { IfOk result (λ n. n ≡ min (min (length piece.now) self.old.most) (self.old.room - length self.old.written)) }
-        ensures calls { self.new.calls ≡ raised self.old.calls }
+        ensures calls { self.new.calls ≡ raised_count self.old.calls }
         ensures same { (self.new.room ≡ self.old.room) × (self.new.most ≡ self.old.most) × (self.new.failing ≡ self.old.failing) }
-        ensures on_err { OnErr result (self.new.faults ≡ raised self.old.faults) }
+        ensures on_err { OnErr result (self.new.faults ≡ raised_count self.old.faults) }
         ensures on_ok { OnOk result (self.new.faults ≡ self.old.faults) }
     {
         self.calls = self.calls.saturating_add(1);

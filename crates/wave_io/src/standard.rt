@@ -3,7 +3,7 @@
 ghost use Rattle.std.specs.Prelude.{◌≡◌, ◌<◌, ◌≤◌, length, OnOk, OnErr, IfOk};
 ghost use Rattle.std.specs.Io.{ReadsAtMost};
 ghost use Rattle.std.specs.Io.KnownBytes.{ReadConsumes, WriteAppends};
-ghost use Rattle.wave_io.specs.Causes.{HasCause, raised};
+ghost use Rattle.wave_io.specs.Causes.{HasCause, raised_count};
 
 use crate::ends::{Failed, Sink, Source};
 use std::io::{Read, Write};
@@ -46,7 +46,7 @@ impl<R: Read> Source for StdSource<R> {
         ensures cause { HasCause self.old.faults self.new.faults result }
 
         // The count is raised by one at an error, and else stays.
-        ensures on_err { OnErr result (self.new.faults ≡ raised self.old.faults) }
+        ensures on_err { OnErr result (self.new.faults ≡ raised_count self.old.faults) }
         ensures on_ok { OnOk result (self.new.faults ≡ self.old.faults) }
     {
         match self.inner.read(buf) {
@@ -103,7 +103,7 @@ impl<W: Write> Sink for StdSink<W> {
         ensures cause { HasCause self.old.faults self.new.faults result }
 
         // The count is raised by one at an error, and else stays.
-        ensures on_err { OnErr result (self.new.faults ≡ raised self.old.faults) }
+        ensures on_err { OnErr result (self.new.faults ≡ raised_count self.old.faults) }
         ensures on_ok { OnOk result (self.new.faults ≡ self.old.faults) }
     {
         match self.inner.write(piece) {

@@ -24,7 +24,7 @@ use Rattle.wave_effects.specs.declared.kept.Out.{Out}
 use Rattle.wave_machine.specs.declared.ready.Ready.{Ready}
 use Rattle.wave_effects.specs.Ending.{is_done}
 use Rattle.wave_effects.specs.Machines.{Kept, Shows, TheState}
-use Rattle.wave_machine.specs.Readies.{choice_of, ready_in, unlabelled}
+use Rattle.wave_machine.specs.Readies.{choice_of, ready_in, choice_from}
 use Rattle.wave_machine.specs.inner.Asking.{admit_labels, asked_in, by_ticket, cell_labels, commit_labels, grant_labels, in_order, is_next, label_at, mail_act, mail_labels, mails_labels, of_kind, start_labels, status_labels, stop_if, stop_labels, stops_labels, runs_out}
 use Rattle.wave_effects.specs.Keeping.{place_in}
 use Rattle.wave_machine.specs.inner.Index.{IsIndex, asked_at, asked_of, by_none, by_part, head_in}
@@ -147,8 +147,8 @@ module _ (w : ℕ) (m : Kept) (idle : slice_get m.hands w ≡ Some None) where
 pub choices_are : (m : Kept) (start : Start) (s : TheState) → Shows m s → CanList m.plan start s → CanList (one_more m.plan) start s → (index : List Ready) → IsIndex m index → map choice_of index ≡ ready_in m.plan s
 choices_are m start s shows list more index e =
     let w = m.plan.workers in
-    sym (map_twice unlabelled (λ (r : Ready). with_worker w (by_none r)) index)
-    ∙ ap (map unlabelled) (taken_is w (wider m) (one_idle m start s shows) start s (shows_wider m start s shows list) more index e)
+    sym (map_twice choice_from (λ (r : Ready). with_worker w (by_none r)) index)
+    ∙ ap (map choice_from) (taken_is w (wider m) (one_idle m start s shows) start s (shows_wider m start s shows list) more index e)
 
 pub in_mapped : {X Y : Type 0} (f : X → Y) (xs : List X) (x : X) → IsIn xs x → IsIn (map f xs) (f x)
 in_mapped f [] x i = absurd i

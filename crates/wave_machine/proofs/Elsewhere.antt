@@ -25,7 +25,7 @@ use Rattle.wave_states.specs.Steps.{Deliver, route_by}
 use Rattle.wave_theory.proofs.Basics.{differ, not_same, number_cases, path_cases, path_self}
 use Rattle.wave_effects.specs.declared.actor.Actor.{Actor}
 use Rattle.wave_effects.specs.Machines.{Kept}
-use Rattle.wave_effects.specs.Apart.{AnswersAs, AsksAs, Moves, grown}
+use Rattle.wave_effects.specs.Apart.{AnswersAs, AsksAs, Moves, new_cells}
 use Rattle.wave_machine.specs.inner.Asking.{enter_act, grant_labels, is_claim, is_next, is_next_in, label_at, mail_act, mail_labels, route_at, start_labels, status_labels}
 use Rattle.wave_effects.specs.Keeping.{place_in}
 use Rattle.wave_machine.specs.inner.Index.{KeepsMails, asked_as, asked_at, asked_by, asked_of, cell_at, has_at, next_at, next_of, number_of, sent_at, sent_by, slot_at, slot_by}
@@ -96,7 +96,7 @@ next_false u q (Some st) apart = by_entry (table.get st.store q) apart
     by_entry None h = refl
     by_entry (Some e) h = by_claim (next_in (entry_of e)) h
 
-pub grown_few : (a : Act) → grown a ≤ 1
+pub grown_few : (a : Act) → new_cells a ≤ 1
 grown_few (Admit t) = omega arith
 grown_few (Queue t k p) = omega arith
 grown_few (Grant t p) = omega arith
@@ -163,7 +163,7 @@ module _ (m m' : Kept) (l : Label) (more : ℕ) (moves : Moves m m' l more) wher
     new_is : cell_at m' u ≡ Some new
     asks : AsksAs old new
 
-  two_cells : (grown l.act ≡ 1 → ticket_of l.act ≡ m.first + length m.cells) → (u : ℕ) → m'.first ≤ u → u < m'.first + length m'.cells → u ≢ ticket_of l.act → TwoCells u
+  two_cells : (new_cells l.act ≡ 1 → ticket_of l.act ≡ m.first + length m.cells) → (u : ℕ) → m'.first ≤ u → u < m'.first + length m'.cells → u ≢ ticket_of l.act → TwoCells u
   two_cells grows u low high apart =
       let first = moves.others.first in
       let many = moves.as_many in
@@ -183,14 +183,14 @@ module _ (m m' : Kept) (l : Label) (more : ℕ) (moves : Moves m m' l more) wher
         asks = moves.others.cells (u - m.first) some.0 some'.0 (λ e. apart (sym here' ∙ e)) some.1 at';
       }
     where
-      within : m'.first ≡ m.first → length m'.cells ≡ grown l.act + length m.cells → grown l.act ≤ 1 → u - m.first < length m.cells
-      within first many few = elim (number_cases (grown l.act) 1) [
+      within : m'.first ≡ m.first → length m'.cells ≡ new_cells l.act + length m.cells → new_cells l.act ≤ 1 → u - m.first < length m.cells
+      within first many few = elim (number_cases (new_cells l.act) 1) [
         | inl one ↦
             let t = grows one in
             let apart_t : u ≢ m.first + length m.cells = λ e. apart (e ∙ sym t) in
             omega (arith, first, many, one, low, high, apart_t)
         | inr d ↦
-            let zero_is : grown l.act ≢ 1 = not_same (grown l.act) 1 d in
+            let zero_is : new_cells l.act ≢ 1 = not_same (new_cells l.act) 1 d in
             omega (arith, first, many, few, zero_is, low, high)
       ]
 
@@ -270,13 +270,13 @@ module _ (m m' : Kept) (l : Label) (more : ℕ) (moves : Moves m m' l more) wher
           ∙ (λ i. status_same c.status i ++ flat_same (λ k. mail_labels m'.stores 0 u k (mail_in c.outbox.mails k)) (λ k. mail_labels m.stores 0 u k (mail_in c.outbox.mails k)) (λ k. mail_same u k (mail_in c.outbox.mails k)) (tickets_from 1 c.outbox.sent) i)
 
       -- another ticket asks for the same
-      pub others_ask : (grown l.act ≡ 1 → ticket_of l.act ≡ m.first + length m.cells) → m'.first ≤ u → u < m'.first + length m'.cells → u ≢ ticket_of l.act → asked_at m u ≡ asked_at m' u
+      pub others_ask : (new_cells l.act ≡ 1 → ticket_of l.act ≡ m.first + length m.cells) → m'.first ≤ u → u < m'.first + length m'.cells → u ≢ ticket_of l.act → asked_at m u ≡ asked_at m' u
       others_ask grows low high apart =
           let it = two_cells grows u low high apart in
           ap (asked_by m.stores u) it.old_is ∙ sym (asked_same it.old it.new it.asks) ∙ sym (ap (asked_by m'.stores u) it.new_is)
 
     -- and so does each of its numbers; 0 is the status of who neither was nor is next
-    pub others_slot : (grown l.act ≡ 1 → ticket_of l.act ≡ m.first + length m.cells) → (u j : ℕ) → m'.first ≤ u → u < m'.first + length m'.cells → u ≢ ticket_of l.act
+    pub others_slot : (new_cells l.act ≡ 1 → ticket_of l.act ≡ m.first + length m.cells) → (u j : ℕ) → m'.first ≤ u → u < m'.first + length m'.cells → u ≢ ticket_of l.act
         → (j ≡ 0 → next_at p (slice_get m.stores l.host) ≡ Some u → ⊥) → (j ≡ 0 → next_at p (slice_get m'.stores l.host) ≡ Some u → ⊥) → slot_at m u j ≡ slot_at m' u j
     others_slot grows u j low high apart before after =
         let it = two_cells grows u low high apart in

@@ -4,13 +4,13 @@ use Rattle.wave_states.specs.Labels.{Act, Label, Admit, Queue, Grant, Visit, Sta
 use Rattle.wave_states.specs.Steps.{step}
 use Rattle.plan_actors.specs.PlanActors.{plan_actors}
 use Rattle.wave_effects.specs.Machines.{IsEnabled, Kept}
-use Rattle.wave_effects.specs.Apart.{grown}
+use Rattle.wave_effects.specs.Apart.{new_cells}
 use Rattle.wave_effects.proofs.Headed.{admits}
 
-pub admit_grows : (m : Kept) (l : Label) → IsEnabled m l → grown l.act ≡ 1 → ticket_of l.act ≡ m.first + length m.cells
+pub admit_grows : (m : Kept) (l : Label) → IsEnabled m l → new_cells l.act ≡ 1 → ticket_of l.act ≡ m.first + length m.cells
 admit_grows m l on one = by_act l.act on.enabled one
   where
-    by_act : (a : Act) → step (plan_actors m.plan.program) m.plan.workers on.state (record { worker = l.worker; host = l.host; act = a }) ≡ Some on.next → grown a ≡ 1 → ticket_of a ≡ m.first + length m.cells
+    by_act : (a : Act) → step (plan_actors m.plan.program) m.plan.workers on.state (record { worker = l.worker; host = l.host; act = a }) ≡ Some on.next → new_cells a ≡ 1 → ticket_of a ≡ m.first + length m.cells
     by_act (Admit t) e o =
         let it = (admits (plan_actors m.plan.program) m.plan.workers on.state on.next l.worker l.host t e).ticket in
         let h = on.stands.shows.head in

@@ -27,7 +27,7 @@ use Rattle.wave_effects.specs.declared.actor.Actor.{Actor}
 use Rattle.wave_effects.specs.declared.lease.Lease.{Lease}
 use Rattle.wave_effects.specs.Machines.{IsCell, IsEnabled, Kept, Stands, Takes, TheState, event_as, IsStood}
 use Rattle.wave_effects.specs.Running.{CanStop, IsStopping, Stops, stop_of}
-use Rattle.wave_effects.specs.Apart.{grown}
+use Rattle.wave_effects.specs.Apart.{new_cells}
 use Rattle.wave_effects.specs.Sized.{IsNumbered}
 use Rattle.wave_machine.specs.inner.Asking.{enter_act, label_at, mail_act, mail_labels, route_at}
 use Rattle.wave_machine.specs.inner.Index.{KeepsMails, number_of, sent_at, sent_by}
@@ -116,7 +116,7 @@ module _ (laws : Laws) (m : Kept) (start : Start) (s : TheState) (stands : Stand
       number_in t k x there.0 at low there.1
 
 -- what brings no cell, or has no mail of its own
-no_number : (a : Act) → grown a ≡ 1 → number_of a ≡ 0
+no_number : (a : Act) → new_cells a ≡ 1 → number_of a ≡ 0
 no_number (Admit t) e = refl
 no_number (Queue t k p) e = absurd (omega (arith, e))
 no_number (Grant t p) e = absurd (omega (arith, e))
@@ -132,11 +132,11 @@ module _ (laws : Laws) (m m' : Kept) (l : Label) (on : IsEnabled m l) (stands' :
   first_is : m'.first ≡ m.first
   first_is = sym stands'.shows.head.before ∙ ap suc (changes (plan_actors m.plan.program) m.plan.workers on.state on.next l on.enabled).before ∙ on.stands.shows.head.before
 
-  keeps : (grown l.act ≡ 1 → ⊥) → KeepsOwn (on.state.cells (ticket_of l.act)) (on.next.cells (ticket_of l.act)) (number_of l.act)
+  keeps : (new_cells l.act ≡ 1 → ⊥) → KeepsOwn (on.state.cells (ticket_of l.act)) (on.next.cells (ticket_of l.act)) (number_of l.act)
   keeps apart = own_by (plan_actors m.plan.program) m.plan.workers on.state on.next l.worker l.host l.act on.enabled apart
 
   -- an admitted ticket had no cell
-  not_grown : (i : ℕ) (c : Cell Actor) → m.first + i ≡ ticket_of l.act → slice_get m.cells i ≡ Some c → grown l.act ≡ 1 → ⊥
+  not_grown : (i : ℕ) (c : Cell Actor) → m.first + i ≡ ticket_of l.act → slice_get m.cells i ≡ Some c → new_cells l.act ≡ 1 → ⊥
   not_grown i c at there one =
       let new = admit_grows m l on one in
       let within = slice_get_within m.cells i c there in
@@ -165,9 +165,9 @@ module _ (laws : Laws) (m m' : Kept) (l : Label) (on : IsEnabled m l) (stands' :
         let a = x.stands.sent in
         let b = y.stands.sent in
         omega (arith, more, a, b);
-    number = elim (number_cases (grown l.act) 1) [
+    number = elim (number_cases (new_cells l.act) 1) [
       | inl one ↦ (let none = no_number l.act one in omega (arith, none))
-      | inr d ↦ by_own (keeps (not_same (grown l.act) 1 d)).own
+      | inr d ↦ by_own (keeps (not_same (new_cells l.act) 1 d)).own
     ];
   }
     where

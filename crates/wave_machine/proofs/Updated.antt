@@ -13,7 +13,7 @@ use Rattle.wave_effects.specs.declared.actor.Actor.{Actor}
 use Rattle.wave_machine.specs.declared.listed.Seen.{Seen}
 use Rattle.wave_machine.specs.declared.ready.Ready.{Ready}
 use Rattle.wave_effects.specs.Machines.{Kept}
-use Rattle.wave_effects.specs.Apart.{Moves, grown}
+use Rattle.wave_effects.specs.Apart.{Moves, new_cells}
 use Rattle.wave_effects.specs.Sized.{IsNumbered}
 use Rattle.wave_machine.specs.inner.Asking.{in_order, mail_labels}
 use Rattle.wave_machine.specs.inner.Index.{IsHead, IsInner, IsOwn, KeepsMails, RelistsNear, Taken, asked_as, asked_at, asked_by, asked_of, by_none, by_part, by_slot, cell_at, has_at, next_at, number_of, numbers_in, sent_at, sent_by, slot_at, slot_by, with_above, with_next, with_slot}
@@ -77,12 +77,12 @@ module _ (m : Kept) (part : ℕ → ℕ → List Label) (u j : ℕ) where
       same : (a b : ℕ) → Some a ≡ Some b → a ≡ b
       same a b e = cc
 
-module _ (m m' : Kept) (l : Label) (more : ℕ) (moves : Moves m m' l more) (grows : grown l.act ≡ 1 → ticket_of l.act ≡ m.first + length m.cells) where
+module _ (m m' : Kept) (l : Label) (more : ℕ) (moves : Moves m m' l more) (grows : new_cells l.act ≡ 1 → ticket_of l.act ≡ m.first + length m.cells) where
   -- an admitted ticket had nothing before
   wider : by_part m' (asked_at m) ≡ by_part m (asked_at m)
-  wider = elim (number_cases (grown l.act) 1) [ inl one ↦ came one | inr d ↦ stayed (not_same (grown l.act) 1 d) ]
+  wider = elim (number_cases (new_cells l.act) 1) [ inl one ↦ came one | inr d ↦ stayed (not_same (new_cells l.act) 1 d) ]
     where
-      came : grown l.act ≡ 1 → by_part m' (asked_at m) ≡ by_part m (asked_at m)
+      came : new_cells l.act ≡ 1 → by_part m' (asked_at m) ≡ by_part m (asked_at m)
       came one =
           let many = moves.as_many in
           let n : length m'.cells ≡ length m.cells + 1 = omega (arith, many, one) in
@@ -99,7 +99,7 @@ module _ (m m' : Kept) (l : Label) (more : ℕ) (moves : Moves m m' l more) (gro
           nothing [] = refl
           nothing (x ∷ xs) = nothing xs
 
-      stayed : grown l.act ≢ 1 → by_part m' (asked_at m) ≡ by_part m (asked_at m)
+      stayed : new_cells l.act ≢ 1 → by_part m' (asked_at m) ≡ by_part m (asked_at m)
       stayed d =
           let many = moves.as_many in
           let few = grown_few l.act in

@@ -13,7 +13,7 @@ use Rattle.wave_theory.proofs.Basics.{not_same, number_cases}
 use Rattle.wave_effects.specs.declared.actor.Actor.{Actor}
 use Rattle.wave_effects.specs.Ending.{is_done}
 use Rattle.wave_effects.specs.Machines.{Kept}
-use Rattle.wave_effects.specs.Apart.{AsksAs, AsksTheSame, Moves, grown}
+use Rattle.wave_effects.specs.Apart.{AsksAs, AsksTheSame, Moves, new_cells}
 use Rattle.wave_machine.specs.inner.Index.{cell_at, share_at, share_by, share_of, weight_of}
 use Rattle.wave_machine.proofs.ListingKinds.{slice_none}
 use Rattle.wave_machine.proofs.Elsewhere.{grown_few}
@@ -78,7 +78,7 @@ past_none [] i l = refl
 past_none (x ∷ xs) zero l = absurd (omega (arith, l))
 past_none (x ∷ xs) (suc i) l = past_none xs i (omega (arith, l))
 
-module _ (m m' : Kept) (l : Label) (more : ℕ) (moves : Moves m m' l more) (grows : grown l.act ≡ 1 → ticket_of l.act ≡ m.first + length m.cells) where
+module _ (m m' : Kept) (l : Label) (more : ℕ) (moves : Moves m m' l more) (grows : new_cells l.act ≡ 1 → ticket_of l.act ≡ m.first + length m.cells) where
   abbrev t : ℕ
   t = ticket_of l.act
 
@@ -87,9 +87,9 @@ module _ (m m' : Kept) (l : Label) (more : ℕ) (moves : Moves m m' l more) (gro
 
   -- the whole changes by the share of the label's ticket
   pub weight_moves : weight_of m'.cells + share_at m t ≡ weight_of m.cells + share_at m' t
-  weight_moves = elim (number_cases (grown l.act) 1) [ inl one ↦ came one | inr d ↦ stayed (not_same (grown l.act) 1 d) ]
+  weight_moves = elim (number_cases (new_cells l.act) 1) [ inl one ↦ came one | inr d ↦ stayed (not_same (new_cells l.act) 1 d) ]
     where
-      came : grown l.act ≡ 1 → weight_of m'.cells + share_at m t ≡ weight_of m.cells + share_at m' t
+      came : new_cells l.act ≡ 1 → weight_of m'.cells + share_at m t ≡ weight_of m.cells + share_at m' t
       came one =
           let many = moves.as_many in
           let first = moves.others.first in
@@ -104,10 +104,10 @@ module _ (m m' : Kept) (l : Label) (more : ℕ) (moves : Moves m m' l more) (gro
           let new : share_at m' t ≡ share_by (slice_get m'.cells (length m.cells)) = ap share_by (cell_is m' t low' ∙ ap (slice_get m'.cells) place') in
           omega (arith, grown_by, none, new)
 
-      stayed : grown l.act ≢ 1 → weight_of m'.cells + share_at m t ≡ weight_of m.cells + share_at m' t
+      stayed : new_cells l.act ≢ 1 → weight_of m'.cells + share_at m t ≡ weight_of m.cells + share_at m' t
       stayed d = by_low (cases_lt t m.first)
         where
-          few : grown l.act ≤ 1
+          few : new_cells l.act ≤ 1
           few = grown_few l.act
 
           many : length m'.cells ≡ length m.cells

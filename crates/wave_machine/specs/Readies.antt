@@ -11,8 +11,8 @@ use Rattle.wave_effects.specs.Machines.{TheState}
 abbrev pub choice_of : Ready → Choice
 choice_of r = record { host = r.host.0; act = act_of r.act }
 
-abbrev pub unlabelled : Label → Choice
-unlabelled l = record { host = l.host; act = l.act }
+abbrev pub choice_from : Label → Choice
+choice_from l = record { host = l.host; act = l.act }
 
 -- what can be done at a state, in the canonical order: all but the Stops by the lowest idle worker
 abbrev pub enabled_in : Plan → TheState → List Label
@@ -25,4 +25,4 @@ enabled_by plan s w = enabled_for (plan_actors plan.program) plan.workers plan.s
 -- What an idle worker can do at a state: the list of one worker more than the plan has, without who takes it. That one is idle, since
 -- workers past the plan's number have nothing in hand.
 abbrev pub ready_in : Plan → TheState → List Choice
-ready_in plan s = map unlabelled (enabled_for (plan_actors plan.program) (suc plan.workers) plan.script.hosts s plan.workers)
+ready_in plan s = map choice_from (enabled_for (plan_actors plan.program) (suc plan.workers) plan.script.hosts s plan.workers)

@@ -29,7 +29,7 @@ use wave_labels::Label;
 
 impl<'p> Listed<'p> {
     // What can be done: all but the Stops by the lowest idle worker.
-    pub(crate) fn enabled(&self) -> Result<Seq<Label>, OutOfMemory>
+    pub(crate) fn enabled_labels(&self) -> Result<Seq<Label>, OutOfMemory>
         requires stands { (start : Start) × (s : TheState) × Stands (kept_of self.now.engine) start s }
         requires listed { IsListed self.now }
         ensures { IfOk result (λ ls. (start : Start) (s : TheState) → Stands (kept_of self.now.engine) start s → map label_of ls ≡ enabled_in (kept_of self.now.engine).plan s) }

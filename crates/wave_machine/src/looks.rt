@@ -50,7 +50,7 @@ pub(crate) fn sent_at(engine: &Engine, ticket: Ticket) -> u32
     ensures { result ≡ sent_at (kept_of engine.now) ticket.0 }
 {
     match cell_at(engine, ticket) {
-        Some(cell) => cell.outbox.sent(),
+        Some(cell) => cell.outbox.sent_count(),
         None => 0,
     }
 }

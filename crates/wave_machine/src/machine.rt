@@ -102,10 +102,10 @@ impl<'p> Machine<'p> {
     }
 
     /// What can be done, in the canonical order: all but the Stops by the lowest idle worker.
-    pub fn enabled(&self) -> Result<Seq<Label>, OutOfMemory>
+    pub fn enabled_labels(&self) -> Result<Seq<Label>, OutOfMemory>
         ensures { IfOk result (λ ls. (start : Start) (s : TheState) → Stands self.now.kept start s → map label_of ls ≡ enabled_in self.now.kept.plan s) }
     {
-        self.listed.enabled()
+        self.listed.enabled_labels()
     }
 
     /// What a worker can do, in the same order. For a worker past the plan's number there is nothing.
@@ -195,10 +195,10 @@ impl<'p> Machine<'p> {
     }
 
     /// Whether nothing can be done any more, and no segment is out.
-    pub fn finished(&self) -> bool
+    pub fn is_finished(&self) -> bool
         ensures { (start : Start) (s : TheState) → Stands self.now.kept start s → IsTrue result ↔ runs.Finished (plan_actors self.now.kept.plan.program) self.now.kept.plan.workers s }
     {
-        self.listed.engine.finished()
+        self.listed.engine.is_finished()
     }
 
     /// What a finished run gives. After want of memory the machine comes back as it was.
@@ -247,7 +247,7 @@ impl<'p> Machine<'p> {
     }
 
     /// How many tickets of this run are committed.
-    pub fn committed(&self) -> usize
+    pub fn committed_count(&self) -> usize
         ensures settled { result ≡ length self.now.kept.settled.results }
         ensures done { (start : Start) (s : TheState) → Stands self.now.kept start s → s.head.done ≡ result }
     {
@@ -255,12 +255,12 @@ impl<'p> Machine<'p> {
     }
 
     /// The committed tickets without the first `from`, at most so many: what the whole run gives of each of them, whatever comes yet.
-    pub fn shown(&self, from: u32, most: usize) -> Result<Seq<Shown>, OutOfMemory>
+    pub fn shown_lines(&self, from: u32, most: usize) -> Result<Seq<Shown>, OutOfMemory>
         requires { from ≤ length self.now.kept.settled.results }
         ensures count { IfOk result (λ xs. length xs ≡ min most (length self.now.kept.settled.results - from)) }
         ensures lines { IfOk result (λ xs. (start : Start) (s : TheState) → Stands self.now.kept start s → (i : ℕ) (x : Shown) → slice_get xs i ≡ Some x → IsLineOf (finished_of (code_ran self.now.kept.plan.program) self.now.kept.plan.program.shape start self.now.kept.plan.script) (from + i) x) }
     {
-        self.listed.engine.shown(self.alloc, from, most)
+        self.listed.engine.shown_lines(self.alloc, from, most)
     }
 }
 

@@ -6,7 +6,7 @@ use Rattle.wave_states.specs.States.{State}
 use Rattle.wave_states.specs.Labels.{Label, ticket_of, takes_mail}
 use Rattle.wave_states.specs.Steps.{step}
 use Rattle.wave_states.specs.Canonical.{enabled}
-use Rattle.wave_base.specs.Draws.{next_draw, drawn}
+use Rattle.wave_base.specs.Draws.{next_draw, draw_from}
 
 module _ {A F R J : Type 0} (sys : Actors A F R J) (workers : ℕ) where
   -- the state that a list of labels leads to, where each is enabled
@@ -40,7 +40,7 @@ or_else (Some l) other = Some l
 abbrev pub seed : {A F R J : Type 0} → Rule A F R J
 seed x s [] = (x, None)
 seed x s (l ∷ []) = (x, Some l)
-seed x s (l ∷ m ∷ ls) = (next_draw x, slice_get (l ∷ m ∷ ls) (drawn x % length (l ∷ m ∷ ls)))
+seed x s (l ∷ m ∷ ls) = (next_draw x, slice_get (l ∷ m ∷ ls) (draw_from x % length (l ∷ m ∷ ls)))
 
 abbrev pub least : Label → List Label → Label
 least l [] = l

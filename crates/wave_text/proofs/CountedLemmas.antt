@@ -8,7 +8,7 @@ use Rattle.std.proofs.lemmas.Bool.{and_parts}
 use Rattle.std.proofs.lemmas.Bool.Decides.{nat_tests}
 use Rattle.std.proofs.lemmas.Fmt.{digits_decimal}
 use Rattle.std.proofs.lemmas.List.Sums.{sum_by-cons, sum_by-append, count_by-le-length}
-use Rattle.wave_text.specs.Counted.{left_over, line_count, counted, IsBehindHead, HasNoHead}
+use Rattle.wave_text.specs.Counted.{left_over, line_count, counted_lines, IsBehindHead, HasNoHead}
 use Rattle.wave_text.specs.Splits.{is_other, HasNone, IsSplit}
 use Rattle.wave_text.proofs.NumberLemmas.{own}
 use Rattle.wave_text.proofs.SplitLemmas.{none-append, nowhere, one_split}
@@ -91,7 +91,7 @@ module _ (word : List ℕ) (none : HasNone 10 word) where
   no_line_feed text h other f = nowhere 10 (word ++ decimal (line_count other)) other (subst (HasNone 10) f h)
 
   module _ (text head rest : List ℕ) (short : length text < 2 ^ 63) (s : IsSplit 10 text head rest) where
-    head_front : (other : List ℕ) → text ≡ counted word other → (head ≡ word ++ decimal (line_count rest)) × (rest ≡ other)
+    head_front : (other : List ℕ) → text ≡ counted_lines word other → (head ≡ word ++ decimal (line_count rest)) × (rest ≡ other)
     head_front other e =
         let within : length other ≤ length text = subst (λ t. length other ≤ length t) (sym e) (behind_short (word ++ decimal (line_count other)) other) in
         let few : line_count other < 2 ^ 64 = omega (arith, few_lines other) in

@@ -10,7 +10,7 @@ use Rattle.std.specs.Str.Parse.{ParsesSigned, digits_value}
 use Rattle.std.proofs.lemmas.Bool.Decides.{nat_tests}
 use Rattle.std.proofs.lemmas.Str.Parse.{IsNumeralModel, numerals_by_value, parse_signed_plain, parse_signed_minus}
 use Rattle.wave_base.specs.Names.{is_digits}
-use Rattle.wave_text.specs.Numbers.{number_of, positive, negative, whole_of}
+use Rattle.wave_text.specs.Numbers.{number_of, positive_int, negative_int, whole_of}
 use Rattle.wave_text.specs.Words.{is_whole}
 
 abbrev pub AreDigits : List ℕ → Type 0
@@ -49,13 +49,13 @@ is_minus b h = grind (arith, nat_tests)
 pub first_digit : (b : ℕ) (bs : List ℕ) → is_digits (b ∷ bs) ≡ true → (b ≢ 43) × (b ≢ 45)
 first_digit b bs h = (λ e. grind (arith, nat_tests), λ e. grind (arith, nat_tests))
 
-reads_plain : {E : Type 0} (b : ℕ) (bs : List ℕ) (r : Result ℤ E) → is_digits (b ∷ bs) ≡ true → ParsesSigned w64 10 (b ∷ bs) r → result_ok r ≡ positive (number_of (b ∷ bs))
+reads_plain : {E : Type 0} (b : ℕ) (bs : List ℕ) (r : Result ℤ E) → is_digits (b ∷ bs) ≡ true → ParsesSigned w64 10 (b ∷ bs) r → result_ok r ≡ positive_int (number_of (b ∷ bs))
 reads_plain b bs r h p =
     let f = first_digit b bs h in
     let d = are_digits (b ∷ bs) h in
     chosen r _ (pos (number_of (b ∷ bs))) (nat_lt (number_of (b ∷ bs)) (2 ^ 63)) (parse_signed_plain own w64 (b ∷ bs) r p f.0 f.1) (λ q. lt_test (number_of (b ∷ bs)) (2 ^ 63) q.2) (λ e. (d.0, d.1, lt_from (number_of (b ∷ bs)) (2 ^ 63) e))
 
-reads_minus : {E : Type 0} (bs : List ℕ) (r : Result ℤ E) → is_digits bs ≡ true → ParsesSigned w64 10 (45 ∷ bs) r → result_ok r ≡ negative (number_of bs)
+reads_minus : {E : Type 0} (bs : List ℕ) (r : Result ℤ E) → is_digits bs ≡ true → ParsesSigned w64 10 (45 ∷ bs) r → result_ok r ≡ negative_int (number_of bs)
 reads_minus bs r h p =
     let d = are_digits bs h in
     chosen r _ (neg_ℤ (pos (number_of bs))) (nat_le (number_of bs) (2 ^ 63)) (parse_signed_minus own w64 (45 ∷ bs) r p refl) (λ q. le_test (number_of bs) (2 ^ 63) q.2) (λ e. (d.0, d.1, le_from (number_of bs) (2 ^ 63) e))
@@ -63,7 +63,7 @@ reads_minus bs r h p =
 pub reads_whole : {E : Type 0} (bs : List ℕ) (r : Result ℤ E) → is_whole bs ≡ true → ParsesSigned w64 10 bs r → result_ok r ≡ whole_of bs
 reads_whole [] r h p = cc
 reads_whole (b ∷ bs) r h p =
-    elim (b == 45) as (λ t. b == 45 ≡ t → is_digits (cond t bs (b ∷ bs)) ≡ true → result_ok r ≡ cond t (negative (number_of bs)) (positive (number_of (b ∷ bs)))) [
+    elim (b == 45) as (λ t. b == 45 ≡ t → is_digits (cond t bs (b ∷ bs)) ≡ true → result_ok r ≡ cond t (negative_int (number_of bs)) (positive_int (number_of (b ∷ bs)))) [
       | true ↦ λ e k. reads_minus bs r k (subst (λ x. ParsesSigned w64 10 (x ∷ bs) r) (is_minus b e) p)
       | false ↦ λ e k. reads_plain b bs r k p
     ] refl h

@@ -4,7 +4,7 @@ use Rattle.std.specs.Prelude.{◌==◌, ◌&&◌, ◌||◌, nat_le, nat_lt}
 use Rattle.std.proofs.lemmas.Bool.Decides.{nat_tests}
 use Rattle.std.proofs.lemmas.List.Elements.{All-nil, All-cons, All-head, All-tail}
 use Rattle.wave_base.specs.Text.{IsPrintable}
-use Rattle.wave_base.specs.Text.{escaped, escaped_byte}
+use Rattle.wave_base.specs.Text.{escaped_text, escaped_byte}
 use Rattle.wave_text.specs.Quotes.{Quotes, QuotesNone, QuotesOnly, Byte, Close, Wrong, next_in, next_escaped}
 
 -- ---- what stands next
@@ -91,16 +91,16 @@ pub record IsReadTo (bytes front rest : List ℕ) : Type 0 where
 nothing_else : (rest r : List ℕ) → Quotes rest [] r → next_in rest ≡ Close r
 nothing_else rest r q = ap next_in q.spelled
 
-one_more : (rest r u : List ℕ) (b : ℕ) → Quotes rest (b ∷ u) r → next_in rest ≡ Byte b (escaped u ++ 34 ∷ r)
+one_more : (rest r u : List ℕ) (b : ℕ) → Quotes rest (b ∷ u) r → next_in rest ≡ Byte b (escaped_text u ++ 34 ∷ r)
 one_more rest r u b q =
-    ap next_in (q.spelled ∙ append_assoc (escaped_byte b) (escaped u) (34 ∷ r)) ∙ byte_onto b (escaped u ++ 34 ∷ r) (All-head IsPrintable b u q.printable)
+    ap next_in (q.spelled ∙ append_assoc (escaped_byte b) (escaped_text u) (34 ∷ r)) ∙ byte_onto b (escaped_text u ++ 34 ∷ r) (All-head IsPrintable b u q.printable)
 
 pub byte_read : (bytes front rest front' after : List ℕ) (b : ℕ) → IsReadTo bytes front rest → next_in rest ≡ Byte b after → front' ≡ front ++ b ∷ [] → IsReadTo bytes front' after
 byte_read bytes front rest front' after b h e f = record {
   sound = λ t r q.
       let n = byte_from rest after b e in
       let longer : Quotes rest (b ∷ t) r = record {
-        spelled = n.0 ∙ ap (λ z. escaped_byte b ++ z) q.spelled ∙ sym (append_assoc (escaped_byte b) (escaped t) (34 ∷ r));
+        spelled = n.0 ∙ ap (λ z. escaped_byte b ++ z) q.spelled ∙ sym (append_assoc (escaped_byte b) (escaped_text t) (34 ∷ r));
         printable = All-cons IsPrintable b t n.1 q.printable;
       } in
       subst (λ z. Quotes bytes z r) (sym (append_assoc front (b ∷ []) t) ∙ ap (λ z. z ++ t) (sym f)) (h.sound (b ∷ t) r longer);
@@ -110,9 +110,9 @@ byte_read bytes front rest front' after b h e f = record {
     by_text : (u t r : List ℕ) → t ≡ front ++ u → Quotes rest u r → (v : List ℕ) × (t ≡ front' ++ v) × Quotes after v r
     by_text [] t r s q = absurd (cc (sym e ∙ nothing_else rest r q))
     by_text (c ∷ u) t r s q =
-        let next : Byte b after ≡ Byte c (escaped u ++ 34 ∷ r) = sym e ∙ one_more rest r u c q in
+        let next : Byte b after ≡ Byte c (escaped_text u ++ 34 ∷ r) = sym e ∙ one_more rest r u c q in
         let same : b ≡ c = cc in
-        let left : after ≡ escaped u ++ 34 ∷ r = cc in
+        let left : after ≡ escaped_text u ++ 34 ∷ r = cc in
         (u, s ∙ ap (λ z. front ++ z ∷ u) (sym same) ∙ sym (append_assoc front (b ∷ []) u) ∙ ap (λ z. z ++ u) (sym f), record { spelled = left; printable = All-tail IsPrintable c u q.printable })
 
 pub all_read : (bytes front rest after : List ℕ) → IsReadTo bytes front rest → next_in rest ≡ Close after → Quotes bytes front after × QuotesOnly bytes front after

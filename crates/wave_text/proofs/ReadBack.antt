@@ -5,7 +5,7 @@ use Rattle.std.specs.Fmt.{decimal, signed_decimal}
 use Rattle.std.proofs.lemmas.Bool.Decides.{nat_tests}
 use Rattle.std.proofs.lemmas.Fmt.{digits_decimal, digits_value-decimal, decimal_nonempty, length-decimal-le}
 use Rattle.wave_base.specs.Names.{is_digits}
-use Rattle.wave_text.specs.Numbers.{number_of, positive, negative, whole_of}
+use Rattle.wave_text.specs.Numbers.{number_of, positive_int, negative_int, whole_of}
 use Rattle.wave_text.specs.Words.{is_whole, without_minus}
 use Rattle.wave_text.proofs.NumberLemmas.{AreDigits, own, lt_test, le_test, first_digit}
 
@@ -27,7 +27,7 @@ plain_again (b ∷ bs) n h v below short =
     let fits : nat_lt (number_of (b ∷ bs)) (2 ^ 63) ≡ true = ap (λ k. nat_lt k (2 ^ 63)) v ∙ lt_test n (2 ^ 63) below in
     let same : without_minus (b ∷ bs) ≡ b ∷ bs = ap (λ t. cond t bs (b ∷ bs)) plain in (
       ap is_digits same ∙ h,
-      ap (λ t. cond t (negative (number_of bs)) (positive (number_of (b ∷ bs)))) plain ∙ ap (λ t. cond t (Some (pos (number_of (b ∷ bs)))) None) fits ∙ ap (λ k. Some (pos k)) v,
+      ap (λ t. cond t (negative_int (number_of bs)) (positive_int (number_of (b ∷ bs)))) plain ∙ ap (λ t. cond t (Some (pos (number_of (b ∷ bs)))) None) fits ∙ ap (λ k. Some (pos k)) v,
       subst (λ ds. length ds ≤ 19) (sym same) short,
     )
 

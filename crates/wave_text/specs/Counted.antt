@@ -13,14 +13,14 @@ abbrev pub line_count : List ℕ → ℕ
 line_count text = count_by (λ b. b == 10) text + left_over text
 
 -- a word, and how many lines this is
-abbrev pub counted : List ℕ → List ℕ → List ℕ
-counted word rest = (word ++ decimal (line_count rest)) ++ 10 ∷ rest
+abbrev pub counted_lines : List ℕ → List ℕ → List ℕ
+counted_lines word rest = (word ++ decimal (line_count rest)) ++ 10 ∷ rest
 
 -- this stands behind a head of that word
 pub record IsBehindHead (word text rest : List ℕ) : Type 0 where
-  pub spelled : text ≡ counted word rest
-  pub only : (other : List ℕ) → text ≡ counted word other → other ≡ rest
+  pub spelled : text ≡ counted_lines word rest
+  pub only : (other : List ℕ) → text ≡ counted_lines word other → other ≡ rest
 
 -- no head of that word begins the text
 abbrev pub HasNoHead : List ℕ → List ℕ → Type 0
-HasNoHead word text = (rest : List ℕ) → text ≡ counted word rest → ⊥
+HasNoHead word text = (rest : List ℕ) → text ≡ counted_lines word rest → ⊥

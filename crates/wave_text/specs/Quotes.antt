@@ -1,11 +1,11 @@
 -- Texts between quotes, as a service and a script have them.
 use Rattle.std.specs.Prelude.{◌≡◌, ℕ, ◌==◌, ◌&&◌, ◌||◌, nat_le, nat_lt, if◌then◌else◌, List, [], ◌∷◌, ◌++◌, All}
 use Rattle.wave_base.specs.Text.{IsPrintable}
-use Rattle.wave_base.specs.Text.{escaped}
+use Rattle.wave_base.specs.Text.{escaped_text}
 
 -- behind an opening quote stands this text, its closing quote, and then the rest
 pub record Quotes (bytes text rest : List ℕ) : Type 0 where
-  pub spelled : bytes ≡ escaped text ++ 34 ∷ rest
+  pub spelled : bytes ≡ escaped_text text ++ 34 ∷ rest
   pub printable : All IsPrintable text
 
 -- behind an opening quote stands no text with its closing quote

@@ -3,7 +3,7 @@ use Rattle.std.specs.Prelude.{ℕ, ◌+◌, ◌==◌, ℤ, if◌then◌else◌, 
 use Rattle.std.specs.Fmt.{signed_decimal}
 use Rattle.wave_base.specs.declared.value.Value.{Value}
 use Rattle.wave_base.specs.declared.value.Value.TheVariants.{Int, Bool, Str, Map}
-use Rattle.wave_base.specs.Text.{quoted}
+use Rattle.wave_base.specs.Text.{quoted_text}
 
 -- 1: 5
 abbrev pub pair_text : ℤ × ℤ → List ℕ
@@ -26,5 +26,5 @@ pairs_text ps = pairs_from 0 ps
 abbrev pub value_text : Value → List ℕ
 value_text (Int n) = signed_decimal n
 value_text (Bool b) = if b then codes "true" else codes "false"
-value_text (Str t) = quoted t
+value_text (Str t) = quoted_text t
 value_text (Map m) = codes "{" ++ pairs_text m ++ codes "}"

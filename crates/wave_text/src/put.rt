@@ -2,7 +2,7 @@
 
 ghost use Rattle.std.specs.Prelude.{◌≡◌, ◌++◌, OnOk};
 ghost use Rattle.std.specs.Fmt.{decimal, signed_decimal};
-ghost use Rattle.wave_base.specs.Text.{escaped, quoted};
+ghost use Rattle.wave_base.specs.Text.{escaped_text, quoted_text};
 ghost use Rattle.wave_text.specs.Places.{place_text};
 ghost use Rattle.wave_text.specs.ValueTexts.{pair_text, comma_before, pairs_text, value_text};
 
@@ -45,7 +45,7 @@ pub fn put_place(alloc: Global, out: &mut Vec<u8>, at: Span) -> Result<(), OutOf
 
 // Appends a text, with a backslash before each quote and backslash.
 fn put_escaped(out: &mut Vec<u8>, text: &[u8]) -> Result<(), OutOfMemory>
-    ensures { OnOk result (out.new.items ≡ out.old.items ++ escaped text.now) }
+    ensures { OnOk result (out.new.items ≡ out.old.items ++ escaped_text text.now) }
 {
     for b in text {
         if *b == b'"' || *b == b'\\' {
@@ -58,7 +58,7 @@ fn put_escaped(out: &mut Vec<u8>, text: &[u8]) -> Result<(), OutOfMemory>
 
 /// Appends a text in quotes.
 pub fn put_quoted(out: &mut Vec<u8>, text: &[u8]) -> Result<(), OutOfMemory>
-    ensures { OnOk result (out.new.items ≡ out.old.items ++ quoted text.now) }
+    ensures { OnOk result (out.new.items ≡ out.old.items ++ quoted_text text.now) }
 {
     put_bytes(out, b"\"")?;
     put_escaped(out, text)?;

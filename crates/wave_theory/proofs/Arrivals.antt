@@ -32,7 +32,7 @@ use Rattle.wave_theory.proofs.Passing
 use Rattle.wave_theory.proofs.GoodStates.{Good_state}
 use Rattle.wave_theory.proofs.GoodStates
 use Rattle.wave_theory.proofs.Along
-use Rattle.wave_theory.specs.Came.{granted, granted_by, is_enter_to, sent_by, sender_by, senders_from}
+use Rattle.wave_theory.specs.Came.{grants_at, granted_by, is_enter_to, sent_by, sender_by, senders_from}
 use Rattle.wave_theory.proofs.Stages.{lined_done, there_done}
 
 -- the last of a list, or one before it
@@ -46,9 +46,9 @@ longer : {X : Type 0} (xs : List X) (x : X) → length (xs ++ x ∷ []) ≡ suc 
 longer [] x = refl
 longer (y ∷ xs) x = ap suc (longer xs x)
 
-pub granted_more : (p : Path) (ls : List Label) (l : Label) → granted p (ls ++ l ∷ []) ≡ granted p ls ++ granted_by p l.act
+pub granted_more : (p : Path) (ls : List Label) (l : Label) → grants_at p (ls ++ l ∷ []) ≡ grants_at p ls ++ granted_by p l.act
 granted_more p [] l = append-nil (granted_by p l.act)
-granted_more p (m ∷ ls) l = ap (λ ts. granted_by p m.act ++ ts) (granted_more p ls l) ∙ sym (append_assoc (granted_by p m.act) (granted p ls) (granted_by p l.act))
+granted_more p (m ∷ ls) l = ap (λ ts. granted_by p m.act ++ ts) (granted_more p ls l) ∙ sym (append_assoc (granted_by p m.act) (grants_at p ls) (granted_by p l.act))
 
 -- the hosts of a trail
 abbrev pub hosts_of : Trail → List ℕ
@@ -143,7 +143,7 @@ module _ {A F R J : Type 0} (kind : Kind A F R J) (owes : Owes kind) (b : Begin 
 
   module _ (some_host : 0 < kind.hosts) (workers : ℕ) where
     pub record Noted (ls : List Label) (s : State A F R J) (k : Good s) : Type 0 where
-      pub came : (p : Path) → Firsts (granted p ls) ((k.ghost).lines.served p) p
+      pub came : (p : Path) → Firsts (grants_at p ls) ((k.ghost).lines.served p) p
       pub sent : (p : Path) → Firsts (senders_from kind.system workers p (Some (start_state b batches)) ls) ((k.ghost).lines.given p) p
       pub trace : (p : Path) → trail_from kind.system workers p (first_trail b p) (Some (start_state b batches)) ls ≡ list_of ((k.ghost).born p) ((k.ghost).trail p)
       pub root : (k.ghost).lines.given [] ≡ (k.ghost).lines.admitted
@@ -170,28 +170,28 @@ module _ {A F R J : Type 0} (kind : Kind A F R J) (owes : Owes kind) (b : Begin 
       comes_here t v q m = (let kn = known_by t (λ z. m (sym q ∙ z)) in (kn.0, (k.shows.cells t kn.0 kn.1).real, visits_of kind.system w law course b.before Is_real k.ghost k.shows.good t (here w (g).lines t) kn.1 (entered_spot kind.system w law course b.before Is_real k.ghost k.shows.good t kn.1 (λ z. m (sym q ∙ z)))))
 
       -- who was let in
-      came_by : (a : Act) (d : Deed) → Suits a d → Deeds.Fits kind.system w course b.before Is_real s k.ghost (n.good).ghost (ticket_of a) (path_of a) d → (p : Path) → Firsts (granted p ls ++ granted_by p a) ((done_by w o (ticket_of a) (path_of a) d).served p) p
-      came_by a Deeds.Lets_in su f p = (let q = grant_form a su in subst (λ u. Deeds.Fits kind.system w course b.before Is_real s k.ghost (n.good).ghost (ticket_of u) (path_of u) Deeds.Lets_in → Firsts (granted p ls ++ granted_by p u) ((done_by w o (ticket_of u) (path_of u) Deeds.Lets_in).served p) p) (sym q.2) (granting q.0 q.1) f)
+      came_by : (a : Act) (d : Deed) → Suits a d → Deeds.Fits kind.system w course b.before Is_real s k.ghost (n.good).ghost (ticket_of a) (path_of a) d → (p : Path) → Firsts (grants_at p ls ++ granted_by p a) ((done_by w o (ticket_of a) (path_of a) d).served p) p
+      came_by a Deeds.Lets_in su f p = (let q = grant_form a su in subst (λ u. Deeds.Fits kind.system w course b.before Is_real s k.ghost (n.good).ghost (ticket_of u) (path_of u) Deeds.Lets_in → Firsts (grants_at p ls ++ granted_by p u) ((done_by w o (ticket_of u) (path_of u) Deeds.Lets_in).served p) p) (sym q.2) (granting q.0 q.1) f)
         where
-          granting : (t : ℕ) (q : Path) → Deeds.LetsIn kind.system w course b.before Is_real k.ghost t q → Firsts (granted p ls ++ (if path_eq q p then t ∷ [] else [])) (set path_eq (g).lines.served (here w (g).lines t) (suc ((g).lines.served (here w (g).lines t))) p) p
+          granting : (t : ℕ) (q : Path) → Deeds.LetsIn kind.system w course b.before Is_real k.ghost t q → Firsts (grants_at p ls ++ (if path_eq q p then t ∷ [] else [])) (set path_eq (g).lines.served (here w (g).lines t) (suc ((g).lines.served (here w (g).lines t))) p) p
           granting t q f = elim (path_cases q p) [
-            | inr d ↦ firsts_same (granted p ls) _ ((g).lines.served p) _ p (ap (λ i. granted p ls ++ (if i then t ∷ [] else [])) d ∙ append-nil (granted p ls)) (ap (λ u. set path_eq (g).lines.served u (suc ((g).lines.served u)) p) f.place ∙ set_there path_eq (g).lines.served q _ p d) (h.came p)
-            | inl d ↦ subst (λ u. Firsts (granted u ls ++ (if path_eq q u then t ∷ [] else [])) (set path_eq (g).lines.served (here w (g).lines t) (suc ((g).lines.served (here w (g).lines t))) u) u) d
-                (let c = comes_here t Lined f.stage lined_done in firsts_same (granted q ls ++ t ∷ []) _ (suc ((g).lines.served q)) _ q (ap (λ i. granted q ls ++ (if i then t ∷ [] else [])) (path_self q)) (ap (λ u. set path_eq (g).lines.served u (suc ((g).lines.served u)) q) f.place ∙ set_at_path (g).lines.served q _)
-                (firsts_more (granted q ls) ((g).lines.served q) q t (h.came q) c.0 c.1 (subst (λ u. visits w t u ≡ true) f.place c.2) f.number))
+            | inr d ↦ firsts_same (grants_at p ls) _ ((g).lines.served p) _ p (ap (λ i. grants_at p ls ++ (if i then t ∷ [] else [])) d ∙ append-nil (grants_at p ls)) (ap (λ u. set path_eq (g).lines.served u (suc ((g).lines.served u)) p) f.place ∙ set_there path_eq (g).lines.served q _ p d) (h.came p)
+            | inl d ↦ subst (λ u. Firsts (grants_at u ls ++ (if path_eq q u then t ∷ [] else [])) (set path_eq (g).lines.served (here w (g).lines t) (suc ((g).lines.served (here w (g).lines t))) u) u) d
+                (let c = comes_here t Lined f.stage lined_done in firsts_same (grants_at q ls ++ t ∷ []) _ (suc ((g).lines.served q)) _ q (ap (λ i. grants_at q ls ++ (if i then t ∷ [] else [])) (path_self q)) (ap (λ u. set path_eq (g).lines.served u (suc ((g).lines.served u)) q) f.place ∙ set_at_path (g).lines.served q _)
+                (firsts_more (grants_at q ls) ((g).lines.served q) q t (h.came q) c.0 c.1 (subst (λ u. visits w t u ≡ true) f.place c.2) f.number))
           ]
-      came_by a Deeds.Admits su f p = firsts_same (granted p ls) _ ((g).lines.served p) _ p (ap (λ ts. granted p ls ++ ts) (grants_none a Deeds.Admits refl su p) ∙ append-nil (granted p ls)) refl (h.came p)
-      came_by a Deeds.Lines_up su f p = firsts_same (granted p ls) _ ((g).lines.served p) _ p (ap (λ ts. granted p ls ++ ts) (grants_none a Deeds.Lines_up refl su p) ∙ append-nil (granted p ls)) refl (h.came p)
-      came_by a Deeds.Arrives su f p = firsts_same (granted p ls) _ ((g).lines.served p) _ p (ap (λ ts. granted p ls ++ ts) (grants_none a Deeds.Arrives refl su p) ∙ append-nil (granted p ls)) refl (h.came p)
-      came_by a Deeds.Rests su f p = firsts_same (granted p ls) _ ((g).lines.served p) _ p (ap (λ ts. granted p ls ++ ts) (grants_none a Deeds.Rests refl su p) ∙ append-nil (granted p ls)) refl (h.came p)
-      came_by a Deeds.Lands su f p = firsts_same (granted p ls) _ ((g).lines.served p) _ p (ap (λ ts. granted p ls ++ ts) (grants_none a Deeds.Lands refl su p) ∙ append-nil (granted p ls)) refl (h.came p)
-      came_by a Deeds.Goes_on su f p = firsts_same (granted p ls) _ ((g).lines.served p) _ p (ap (λ ts. granted p ls ++ ts) (grants_none a Deeds.Goes_on refl su p) ∙ append-nil (granted p ls)) refl (h.came p)
-      came_by a Deeds.Ends su f p = firsts_same (granted p ls) _ ((g).lines.served p) _ p (ap (λ ts. granted p ls ++ ts) (grants_none a Deeds.Ends refl su p) ∙ append-nil (granted p ls)) refl (h.came p)
-      came_by a (Deeds.Goes_in st q) su f p = firsts_same (granted p ls) _ ((g).lines.served p) _ p (ap (λ ts. granted p ls ++ ts) (grants_none a (Deeds.Goes_in st q) refl su p) ∙ append-nil (granted p ls)) refl (h.came p)
-      came_by a (Deeds.Moves to) su f p = firsts_same (granted p ls) _ ((g).lines.served p) _ p (ap (λ ts. granted p ls ++ ts) (grants_none a (Deeds.Moves to) refl su p) ∙ append-nil (granted p ls)) refl (h.came p)
+      came_by a Deeds.Admits su f p = firsts_same (grants_at p ls) _ ((g).lines.served p) _ p (ap (λ ts. grants_at p ls ++ ts) (grants_none a Deeds.Admits refl su p) ∙ append-nil (grants_at p ls)) refl (h.came p)
+      came_by a Deeds.Lines_up su f p = firsts_same (grants_at p ls) _ ((g).lines.served p) _ p (ap (λ ts. grants_at p ls ++ ts) (grants_none a Deeds.Lines_up refl su p) ∙ append-nil (grants_at p ls)) refl (h.came p)
+      came_by a Deeds.Arrives su f p = firsts_same (grants_at p ls) _ ((g).lines.served p) _ p (ap (λ ts. grants_at p ls ++ ts) (grants_none a Deeds.Arrives refl su p) ∙ append-nil (grants_at p ls)) refl (h.came p)
+      came_by a Deeds.Rests su f p = firsts_same (grants_at p ls) _ ((g).lines.served p) _ p (ap (λ ts. grants_at p ls ++ ts) (grants_none a Deeds.Rests refl su p) ∙ append-nil (grants_at p ls)) refl (h.came p)
+      came_by a Deeds.Lands su f p = firsts_same (grants_at p ls) _ ((g).lines.served p) _ p (ap (λ ts. grants_at p ls ++ ts) (grants_none a Deeds.Lands refl su p) ∙ append-nil (grants_at p ls)) refl (h.came p)
+      came_by a Deeds.Goes_on su f p = firsts_same (grants_at p ls) _ ((g).lines.served p) _ p (ap (λ ts. grants_at p ls ++ ts) (grants_none a Deeds.Goes_on refl su p) ∙ append-nil (grants_at p ls)) refl (h.came p)
+      came_by a Deeds.Ends su f p = firsts_same (grants_at p ls) _ ((g).lines.served p) _ p (ap (λ ts. grants_at p ls ++ ts) (grants_none a Deeds.Ends refl su p) ∙ append-nil (grants_at p ls)) refl (h.came p)
+      came_by a (Deeds.Goes_in st q) su f p = firsts_same (grants_at p ls) _ ((g).lines.served p) _ p (ap (λ ts. grants_at p ls ++ ts) (grants_none a (Deeds.Goes_in st q) refl su p) ∙ append-nil (grants_at p ls)) refl (h.came p)
+      came_by a (Deeds.Moves to) su f p = firsts_same (grants_at p ls) _ ((g).lines.served p) _ p (ap (λ ts. grants_at p ls ++ ts) (grants_none a (Deeds.Moves to) refl su p) ∙ append-nil (grants_at p ls)) refl (h.came p)
 
-      pub came_next : (p : Path) → Firsts (granted p (ls ++ l ∷ [])) (((n.good).ghost).lines.served p) p
-      came_next p = firsts_same _ (granted p (ls ++ l ∷ [])) _ (((n.good).ghost).lines.served p) p (granted_more p ls l) (ap (λ (u : Outline). u.served p) (n.turn).is) (came_by l.act (n.turn).deed (n.turn).suits (n.turn).fits p)
+      pub came_next : (p : Path) → Firsts (grants_at p (ls ++ l ∷ [])) (((n.good).ghost).lines.served p) p
+      came_next p = firsts_same _ (grants_at p (ls ++ l ∷ [])) _ (((n.good).ghost).lines.served p) p (granted_more p ls l) (ap (λ (u : Outline). u.served p) (n.turn).is) (came_by l.act (n.turn).deed (n.turn).suits (n.turn).fits p)
 
       -- a new mail that is an Enter
       enter_case : (p : Path) (m : Option (Mail F)) → ((y : Mail F) (c : Ask) → m ≡ Some y → y.letter ≡ Enter c → ⊥) → is_enter_to p m ≡ false

@@ -29,7 +29,7 @@ use Rattle.wave_theory.proofs.GoodStates.{Good_state}
 use Rattle.wave_theory.proofs.GoodStates
 use Rattle.wave_theory.proofs.Reached
 use Rattle.wave_theory.proofs.Along
-use Rattle.wave_theory.specs.Counted.{passed, passed_to, most_moves, Bounded}
+use Rattle.wave_theory.specs.Counted.{pass_count, passed_to, most_moves, Bounded}
 use Rattle.wave_theory.specs.Numbers.{HasEntry}
 use Rattle.wave_theory.proofs.Passing.{all_labels, passed_more, times_up}
 use Rattle.wave_theory.proofs.Passing
@@ -171,7 +171,7 @@ module _ {A F R J : Type 0} (kind : Kind A F R J) (owes : Owes kind) (b : Begin 
           none_more : (a : ℕ) → a + 0 ≡ a
           none_more a = omega arith
 
-          total_now : (i : Bool) → is_pass l.act ≡ i → passed ls + (if i then 1 else 0) ≡ sum_to s'.admitted (λ j. told i h.tally (ticket_of l.act) (suc b.before + j))
+          total_now : (i : Bool) → is_pass l.act ≡ i → pass_count ls + (if i then 1 else 0) ≡ sum_to s'.admitted (λ j. told i h.tally (ticket_of l.act) (suc b.before + j))
           total_now false q = none_more _ ∙ h.total ∙ (elim many [
             | inl z ↦ ap (λ m. sum_to m (λ j. h.tally (suc b.before + j))) (sym (same_admitted z))
             | inr z ↦ sym (ap (λ m. sum_to m (λ j. h.tally (suc b.before + j))) (more_admitted z.0) ∙ sum_more s.admitted (λ j. h.tally (suc b.before + j)) ∙ ap (λ m. sum_to s.admitted (λ j. h.tally (suc b.before + j)) + m) (h.unused (suc b.before + s.admitted) (subst (λ m. m < suc b.before + s.admitted) (sym k.shows.admitted) (above b.before s.admitted))) ∙ none_more _)
@@ -280,10 +280,10 @@ module _ {A F R J : Type 0} (kind : Kind A F R J) (owes : Owes kind) (b : Begin 
           trans : (a c d : ℕ) → a ≤ c → c ≤ d → a ≤ d
           trans a c d l m = omega (arith, l, m)
 
-      few : passed ls ≤ (work_after kind.system b batches n).entered * most
+      few : pass_count ls ≤ (work_after kind.system b batches n).entered * most
       few = by (passed_along most tops some_host workers ls s r)
         where
-          by : Along.Along kind owes b batches begins jobs some_host workers (Passing.Passed kind owes b batches begins jobs most) (next most tops some_host workers) ls s → passed ls ≤ (work_after kind.system b batches n).entered * most
+          by : Along.Along kind owes b batches begins jobs some_host workers (Passing.Passed kind owes b batches begins jobs most) (next most tops some_host workers) ls s → pass_count ls ≤ (work_after kind.system b batches n).entered * most
           by a = least _ _ _ _ _ _ _ (a.holds).total (sum_less s.admitted (λ i. (a.holds).tally (suc b.before + i)) (λ i. most * length (Sites.entered_by kind owes b batches begins jobs i (job_after kind.system b batches i))) (λ i l. each i l))
               (times_sum most s.admitted (λ i. length (Sites.entered_by kind owes b batches begins jobs i (job_after kind.system b batches i)))) (times_up most _ _ (sum_up s.admitted n (λ i. length (Sites.entered_by kind owes b batches begins jobs i (job_after kind.system b batches i))) (admitted_few s.admitted (λ i l. job_at i l)))) (entered_is n) (swap most _)
             where
@@ -342,7 +342,7 @@ module _ {A F R J : Type 0} (kind : Kind A F R J) (owes : Owes kind) (b : Begin 
       each = each;
       few_passed = few;
       within = λ n e. both _ _ _ _ _ (all_labels ls) (c.within n e) (few n e);
-      exactly = λ f. all_labels ls ∙ ap (λ m. m + passed ls) (c.exactly f);
+      exactly = λ f. all_labels ls ∙ ap (λ m. m + pass_count ls) (c.exactly f);
     })
       where
         both : (l t p u v : ℕ) → l ≡ t + p → t ≤ u → p ≤ v → l ≤ u + v

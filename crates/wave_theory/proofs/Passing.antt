@@ -28,10 +28,10 @@ use Rattle.wave_theory.proofs.Sites
 use Rattle.wave_theory.proofs.Sizes
 use Rattle.wave_theory.proofs.GoodStates.{Good_state}
 use Rattle.wave_theory.proofs.GoodStates
-use Rattle.wave_theory.specs.Counted.{passed, taken}
+use Rattle.wave_theory.specs.Counted.{pass_count, taken_count}
 use Rattle.wave_theory.proofs.Stages.{entering_done}
 
-pub passed_more : (ls : List Label) (l : Label) → passed (ls ++ l ∷ []) ≡ passed ls + (if is_pass l.act then 1 else 0)
+pub passed_more : (ls : List Label) (l : Label) → pass_count (ls ++ l ∷ []) ≡ pass_count ls + (if is_pass l.act then 1 else 0)
 passed_more [] l = by (is_pass l.act)
   where
     by : (i : Bool) → ◌≡◌ {A = ℕ} (if i then 1 else 0) (0 + (if i then 1 else 0))
@@ -39,18 +39,18 @@ passed_more [] l = by (is_pass l.act)
     by false = refl
 passed_more (m ∷ ls) l = by (is_pass m.act) (passed_more ls l)
   where
-    by : (i : Bool) → passed (ls ++ l ∷ []) ≡ passed ls + (if is_pass l.act then 1 else 0) → (if i then suc (passed (ls ++ l ∷ [])) else passed (ls ++ l ∷ [])) ≡ (if i then suc (passed ls) else passed ls) + (if is_pass l.act then 1 else 0)
+    by : (i : Bool) → pass_count (ls ++ l ∷ []) ≡ pass_count ls + (if is_pass l.act then 1 else 0) → (if i then suc (pass_count (ls ++ l ∷ [])) else pass_count (ls ++ l ∷ [])) ≡ (if i then suc (pass_count ls) else pass_count ls) + (if is_pass l.act then 1 else 0)
     by true e = ap suc e ∙ one _ _
       where
         one : (a c : ℕ) → suc (a + c) ≡ suc a + c
         one a c = omega arith
     by false e = e
 
-pub all_labels : (ls : List Label) → length ls ≡ taken ls + passed ls
+pub all_labels : (ls : List Label) → length ls ≡ taken_count ls + pass_count ls
 all_labels [] = refl
 all_labels (l ∷ ls) = by (is_pass l.act) (all_labels ls)
   where
-    by : (i : Bool) → length ls ≡ taken ls + passed ls → suc (length ls) ≡ (if i then taken ls else suc (taken ls)) + (if i then suc (passed ls) else passed ls)
+    by : (i : Bool) → length ls ≡ taken_count ls + pass_count ls → suc (length ls) ≡ (if i then taken_count ls else suc (taken_count ls)) + (if i then suc (pass_count ls) else pass_count ls)
     by true e = omega (arith, e)
     by false e = omega (arith, e)
 
@@ -103,7 +103,7 @@ module _ {A F R J : Type 0} (kind : Kind A F R J) (owes : Owes kind) (b : Begin 
       pub homes : HomesAre k.ghost
       pub tally : ℕ → ℕ
       pub unused : (t : ℕ) → (k.ghost).lines.admitted < t → tally t ≡ 0
-      pub total : passed ls ≡ sum_to s.admitted (λ i. tally (suc b.before + i))
+      pub total : pass_count ls ≡ sum_to s.admitted (λ i. tally (suc b.before + i))
       pub bound : (t : ℕ) → b.before < t → t ≤ (k.ghost).lines.admitted → Bound ((k.ghost).lines.stage t) t ((k.ghost).lines.pos t) (s.cells t).mails (tally t)
 
     -- the cells of other tickets stay

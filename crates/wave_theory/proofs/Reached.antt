@@ -11,7 +11,7 @@ use Rattle.wave_theory.proofs.Order.{Way, IsWay}
 use Rattle.wave_theory.proofs.Leaves.{Course, IsCourse}
 use Rattle.wave_theory.proofs.Alive
 use Rattle.wave_theory.proofs.Tallies
-use Rattle.wave_theory.specs.Counted.{taken}
+use Rattle.wave_theory.specs.Counted.{taken_count}
 use Rattle.wave_states.specs.Labels.{is_pass}
 use Rattle.wave_theory.proofs.Deeds
 use Rattle.wave_theory.proofs.Shows
@@ -234,7 +234,7 @@ module _ {A F R J : Type 0} (kind : Kind A F R J) (owes : Owes kind) (b : Begin 
     step_next (Land t n p) e = (let y = map_some _ _ s' e in local (Land t n p) y.0 (s.hands v) refl refl y.1 y.2)
 
   -- every state that a list of labels leads to
-  pub run_good : (workers : ℕ) (s s' : State A F R J) (ls : List Label) (k : Good_state s) → run kind.system workers s ls ≡ Some s' → Goes s' (taken ls + total s k.tally)
+  pub run_good : (workers : ℕ) (s s' : State A F R J) (ls : List Label) (k : Good_state s) → run kind.system workers s ls ≡ Some s' → Goes s' (taken_count ls + total s k.tally)
   unfolding run step
   run_good workers s s' [] k e = subst (λ u. Goes u (0 + total s k.tally)) (some_same s s' e) (record { good = k; counts = (let z : (n : ℕ) → n ≡ 0 + n = λ n. omega arith in z (total s k.tally)) })
   run_good workers s s' (l ∷ ls) k e =
@@ -242,7 +242,7 @@ module _ {A F R J : Type 0} (kind : Kind A F R J) (owes : Owes kind) (b : Begin 
       let i = if_some (nat_lt l.worker workers) (step_by kind.system s l.worker l.host l.act) v.0 v.1 in
       let n = step_next s v.0 k.ghost k.shows k.heads k.alive k.tally k.tallied l.worker l.host l.act i.1 in
       let r = run_good workers v.0 s' ls n.good v.2 in
-      record { good = r.good; counts = r.counts ∙ ap (λ m. taken ls + m) n.counts ∙ one_or (is_pass l.act) (taken ls) (total s k.tally) }
+      record { good = r.good; counts = r.counts ∙ ap (λ m. taken_count ls + m) n.counts ∙ one_or (is_pass l.act) (taken_count ls) (total s k.tally) }
     where
       one_or : (i : Bool) (a d : ℕ) → a + (if i then d else suc d) ≡ (if i then a else suc a) + d
       one_or true a d = refl
@@ -281,9 +281,9 @@ module _ {A F R J : Type 0} (kind : Kind A F R J) (owes : Owes kind) (b : Begin 
   unfolding first_good
   first_ghost some_host = refl
 
-  pub reached_by : 0 < kind.hosts → (workers : ℕ) (s : State A F R J) (ls : List Label) → run kind.system workers (start_state b batches) ls ≡ Some s → Goes s (taken ls)
+  pub reached_by : 0 < kind.hosts → (workers : ℕ) (s : State A F R J) (ls : List Label) → run kind.system workers (start_state b batches) ls ≡ Some s → Goes s (taken_count ls)
   reached_by some_host workers s ls e = (let f = first_good some_host in let r = run_good workers (start_state b batches) s ls f.good e in
-      record { good = r.good; counts = r.counts ∙ ap (λ n. taken ls + n) f.counts ∙ none_more (taken ls) })
+      record { good = r.good; counts = r.counts ∙ ap (λ n. taken_count ls + n) f.counts ∙ none_more (taken_count ls) })
     where
       none_more : (a : ℕ) → a + 0 ≡ a
       none_more a = omega arith

@@ -5,7 +5,7 @@ use Rattle.std.proofs.lemmas.Nat.{mod_below}
 use Rattle.wave_states.specs.States.{State}
 use Rattle.wave_states.specs.Labels.{Label, ticket_of, takes_mail}
 use Rattle.wave_states.specs.Runs.{first_of, last_of, or_else, job_is, least, greatest, seed, movers, mail_last}
-use Rattle.wave_base.specs.Draws.{drawn}
+use Rattle.wave_base.specs.Draws.{draw_from}
 use Rattle.wave_theory.specs.Drives.{Picks, RulesPick}
 use Rattle.wave_theory.specs.Listed.{IsIn}
 
@@ -68,7 +68,7 @@ module _ (A F R J : Type 0) where
     where
       by : (x : ℕ) (s : State A F R J) (l : Label) (ls : List Label) → OneOf (seed x s (l ∷ ls)).1 (l ∷ ls)
       by x s l [] = (l, refl, inl refl)
-      by x s l (m ∷ ls) = at_place (l ∷ m ∷ ls) (drawn x % length (l ∷ m ∷ ls)) (below (drawn x) (length ls))
+      by x s l (m ∷ ls) = at_place (l ∷ m ∷ ls) (draw_from x % length (l ∷ m ∷ ls)) (below (draw_from x) (length ls))
         where
           below : (a n : ℕ) → a % (suc (suc n)) < suc (suc n)
           below a n = mod_below a (suc (suc n)) (omega arith)

@@ -20,7 +20,7 @@ use Rattle.wave_states.specs.Actors.{Pause, Go, Down, Over}
 use Rattle.wave_states.specs.Alone.{Alone, into, has, goes_on, next_alone, segment_if, segment_alone, after_segments, segments_of, fold_alone, run_alone, job_after}
 use Rattle.wave_states.specs.Work.{work_after, work_of_job}
 use Rattle.wave_states.specs.Runs.{Finished}
-use Rattle.wave_theory.specs.Counted.{Counted, taken, size}
+use Rattle.wave_theory.specs.Counted.{Counted, taken_count, size}
 use Rattle.wave_theory.proofs.Ways.{Counts, none_yet, next_is}
 use Rattle.wave_theory.proofs.Plans.{first_of, last_of, counts}
 use Rattle.wave_theory.proofs.Courses.{view_real, View}
@@ -200,7 +200,7 @@ module _ {A F R J : Type 0} (kind : Kind A F R J) (owes : Owes kind) (b : Begin 
       either (suc m) zero = inr (suc m, omega arith)
       either (suc m) (suc n) = elim (either m n) [ inl i ↦ inl (i.0, omega (arith, i.1)) | inr i ↦ inr (i.0, omega (arith, i.1)) ]
 
-  module _ (s : State A F R J) (labels : List Rattle.wave_states.specs.Labels.Label) (r : GoodStates.Goes kind owes b batches begins jobs s (taken labels)) where
+  module _ (s : State A F R J) (labels : List Rattle.wave_states.specs.Labels.Label) (r : GoodStates.Goes kind owes b batches begins jobs s (taken_count labels)) where
     abbrev k : Good_state kind owes b batches begins jobs s
     k = r.good
 

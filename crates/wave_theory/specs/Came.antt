@@ -18,9 +18,9 @@ abbrev pub granted_by : Path → Act → List ℕ
 granted_by p (Grant t q) = if path_eq q p then t ∷ [] else []
 granted_by p _ = []
 
-abbrev pub granted : Path → List Label → List ℕ
-granted p [] = []
-granted p (l ∷ ls) = granted_by p l.act ++ granted p ls
+abbrev pub grants_at : Path → List Label → List ℕ
+grants_at p [] = []
+grants_at p (l ∷ ls) = granted_by p l.act ++ grants_at p ls
 
 abbrev pub is_enter_to : {F : Type 0} → Path → Option (Mail F) → Bool
 is_enter_to p None = false
@@ -56,8 +56,8 @@ module _ {A F R J : Type 0} (kind : Kind A F R J) where
   -- Came. The tickets that were granted a context are the first of the fold that enter it, in that order, and as many as its entry says;
   -- and so are those whose Enter to it was sent, as many as its parent's record says.
   pub record Came (workers : ℕ) (b : Begin F) (batches : List (List J)) (labels : List Label) (s : State A F R J) : Type 0 where
-    pub granted_first : (p : Path) → AreFirst b batches p (granted p labels)
-    pub served : (p : Path) (en : Entry F) → HasEntry s p en → en.served ≡ served_before kind b batches p + length (granted p labels)
+    pub granted_first : (p : Path) → AreFirst b batches p (grants_at p labels)
+    pub served : (p : Path) (en : Entry F) → HasEntry s p en → en.served ≡ served_before kind b batches p + length (grants_at p labels)
     pub sent_first : (p : Path) → AreFirst b batches p (senders_from kind.system workers p (Some (start_state b batches)) labels)
     pub given : (p : Path) (st : Step) (en : Entry F) (r : Record F) → HasEntry s p en → en.body ≡ Some r → given_of r st ≡ length (senders_from kind.system workers (p ++ st ∷ []) (Some (start_state b batches)) labels)
     pub at_root : s.admitted ≡ length (senders_from kind.system workers [] (Some (start_state b batches)) labels)

@@ -12,14 +12,14 @@ use Rattle.wave_states.specs.Begins.{Begin, has_moved}
 use Rattle.wave_theory.specs.Numbers.{HasEntry}
 
 -- how many labels are no Passes
-abbrev pub taken : List Label → ℕ
-taken [] = 0
-taken (l ∷ ls) = if is_pass l.act then taken ls else suc (taken ls)
+abbrev pub taken_count : List Label → ℕ
+taken_count [] = 0
+taken_count (l ∷ ls) = if is_pass l.act then taken_count ls else suc (taken_count ls)
 
 -- and how many are
-abbrev pub passed : List Label → ℕ
-passed [] = 0
-passed (l ∷ ls) = if is_pass l.act then suc (passed ls) else passed ls
+abbrev pub pass_count : List Label → ℕ
+pass_count [] = 0
+pass_count (l ∷ ls) = if is_pass l.act then suc (pass_count ls) else pass_count ls
 
 -- two for each ticket, three for each segment, two for each context that a ticket enters
 abbrev pub size : WorkNumbers → ℕ
@@ -29,8 +29,8 @@ module _ {A F R J : Type 0} (kind : Kind A F R J) where
   -- Counted. However the labels are chosen, all but the Passes are at most as many as the work of the whole fold asks for; and in a
   -- finished state exactly as many.
   pub record Counted (workers : ℕ) (b : Begin F) (batches : List (List J)) (labels : List Label) (s : State A F R J) : Type 0 where
-    pub within : (n : ℕ) → job_after kind.system b batches n ≡ None → taken labels ≤ size (work_after kind.system b batches n)
-    pub exactly : Finished kind.system workers s → taken labels ≡ size (work_after kind.system b batches s.head.done)
+    pub within : (n : ℕ) → job_after kind.system b batches n ≡ None → taken_count labels ≤ size (work_after kind.system b batches n)
+    pub exactly : Finished kind.system workers s → taken_count labels ≡ size (work_after kind.system b batches s.head.done)
 
 -- how many labels pass on the Enter of the ticket to the context
 abbrev pub is_pass_of : ℕ → Path → Act → Bool
@@ -50,6 +50,6 @@ module _ {A F R J : Type 0} (kind : Kind A F R J) where
   -- labels; and in a finished state as many as the work asks for, besides the Passes.
   pub record Bounded (workers : ℕ) (b : Begin F) (batches : List (List J)) (labels : List Label) (s : State A F R J) : Type 0 where
     pub each : (t : ℕ) (p : Path) (en : Entry F) → HasEntry s p en → passed_to t p labels ≤ en.moves
-    pub few_passed : (n : ℕ) → job_after kind.system b batches n ≡ None → passed labels ≤ (work_after kind.system b batches n).entered * most_moves b (work_after kind.system b batches n)
+    pub few_passed : (n : ℕ) → job_after kind.system b batches n ≡ None → pass_count labels ≤ (work_after kind.system b batches n).entered * most_moves b (work_after kind.system b batches n)
     pub within : (n : ℕ) → job_after kind.system b batches n ≡ None → length labels ≤ size (work_after kind.system b batches n) + (work_after kind.system b batches n).entered * most_moves b (work_after kind.system b batches n)
-    pub exactly : Finished kind.system workers s → length labels ≡ size (work_after kind.system b batches s.head.done) + passed labels
+    pub exactly : Finished kind.system workers s → length labels ≡ size (work_after kind.system b batches s.head.done) + pass_count labels

@@ -43,7 +43,7 @@ pub fn agree<T: Acting>()
 {}
 
 /// How many mails an event sends.
-pub fn sent<T: Acting>()
+pub fn sends<T: Acting>()
     ensures { (c : T.Code) → Always (T.kind c) Sent }
 {}
 
@@ -68,7 +68,7 @@ pub fn ends<T: Acting>()
 {}
 
 /// How many labels a run takes at most, by what may come of the batches.
-pub fn measured<T: Acting>()
+pub fn label_bounds_by_jobs<T: Acting>()
     ensures { (c : T.Code) → AlwaysOf (T.kind c) Measured }
 {}
 

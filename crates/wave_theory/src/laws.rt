@@ -82,7 +82,7 @@ pub fn by_owners<T: Acting>()
 {}
 
 /// The canonical list has exactly what is enabled, by the lowest idle worker.
-pub fn listed<T: Acting>()
+pub fn lists_are_exact<T: Acting>()
     ensures { (c : T.Code) → AlwaysBy (T.kind c) Listed }
 {}
 
@@ -102,27 +102,27 @@ pub fn one_host<T: Acting>()
 {}
 
 /// How many labels a run takes, its Passes aside.
-pub fn counted<T: Acting>()
+pub fn label_counts<T: Acting>()
     ensures { (c : T.Code) → AlwaysOf (T.kind c) Counted }
 {}
 
 /// How many labels a run takes at most.
-pub fn bounded<T: Acting>()
+pub fn label_bounds<T: Acting>()
     ensures { (c : T.Code) → AlwaysOf (T.kind c) Bounded }
 {}
 
 /// Who was let in to a context, and whose Enter to it was sent, in the order of the labels.
-pub fn came<T: Acting>()
+pub fn arrivals<T: Acting>()
     ensures { (c : T.Code) → AlwaysOf (T.kind c) Came }
 {}
 
 /// The labels tell the trail of each context.
-pub fn traced<T: Acting>()
+pub fn trails_are_told<T: Acting>()
     ensures { (c : T.Code) → AlwaysOf (T.kind c) Traced }
 {}
 
 /// The canonical list is in its order, and has no label twice.
-pub fn sorted<T: Acting>()
+pub fn lists_are_sorted<T: Acting>()
     ensures { (c : T.Code) → AlwaysBy (T.kind c) Sorted }
 {}
 
@@ -132,7 +132,7 @@ pub fn rules_pick<T: Acting>()
 {}
 
 /// Each rule that picks has one drive; it is a run, and ends in a finished state.
-pub fn driven<T: Acting>()
+pub fn drives_end<T: Acting>()
     ensures { (c : T.Code) → Driven (T.kind c) }
 {}
 

@@ -11,13 +11,14 @@ mod shown;
 pub use acting::Acting;
 pub use counter::Counter;
 pub use given::{
-    agree, all_moves, changes, doable, ends, hands_stay_over, holders, holding, loads, may_run,
-    measured, reads, sent, stoppable, within,
+    agree, all_moves, changes, doable, ends, hands_stay_over, holders, holding,
+    label_bounds_by_jobs, loads, may_run, reads, sends, stoppable, within,
 };
 pub use laws::{
-    bounded, bounds, by_owners, came, complete, counted, driven, empty_at_end, families,
-    hands_stay, independent, listed, listed_for, never_stuck, numbers, one_host, one_owner,
-    records, releases_rise, results, rules_pick, sorted, tickets, traced, trails,
+    arrivals, bounds, by_owners, complete, drives_end, empty_at_end, families, hands_stay,
+    independent, label_bounds, label_counts, listed_for, lists_are_exact, lists_are_sorted,
+    never_stuck, numbers, one_host, one_owner, records, releases_rise, results, rules_pick,
+    tickets, trails, trails_are_told,
 };
 pub use movers::{Movers, Walkers};
 pub use shown::{

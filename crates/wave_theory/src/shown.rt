@@ -10,13 +10,14 @@ ghost use Rattle.wave_theory.specs.Movers.{Setting, movers_in};
 
 use crate::counter::Counter;
 use crate::given::{
-    agree, all_moves, changes, doable, ends, hands_stay_over, holders, holding, loads, may_run,
-    measured, reads, sent, stoppable, within,
+    agree, all_moves, changes, doable, ends, hands_stay_over, holders, holding,
+    label_bounds_by_jobs, loads, may_run, reads, sends, stoppable, within,
 };
 use crate::laws::{
-    bounded, bounds, by_owners, came, complete, counted, driven, empty_at_end, families,
-    hands_stay, independent, listed, listed_for, never_stuck, numbers, one_host, one_owner,
-    records, releases_rise, results, rules_pick, sorted, tickets, traced, trails,
+    arrivals, bounds, by_owners, complete, drives_end, empty_at_end, families, hands_stay,
+    independent, label_bounds, label_counts, listed_for, lists_are_exact, lists_are_sorted,
+    never_stuck, numbers, one_host, one_owner, records, releases_rise, results, rules_pick,
+    tickets, trails, trails_are_told,
 };
 use crate::movers::{Movers, Walkers};
 
@@ -36,9 +37,9 @@ pub fn at_the_counter() {
     never_stuck::<Counter>();
     complete::<Counter>();
     by_owners::<Counter>();
-    counted::<Counter>();
+    label_counts::<Counter>();
     bounded::<Counter>();
-    listed::<Counter>();
+    lists_are_exact::<Counter>();
     sorted::<Counter>();
     listed_for::<Counter>();
     empty_at_end::<Counter>();
@@ -65,9 +66,9 @@ pub fn at_movers() {
     never_stuck::<Movers>();
     complete::<Movers>();
     by_owners::<Movers>();
-    counted::<Movers>();
+    label_counts::<Movers>();
     bounded::<Movers>();
-    listed::<Movers>();
+    lists_are_exact::<Movers>();
     sorted::<Movers>();
     listed_for::<Movers>();
     empty_at_end::<Movers>();
@@ -94,9 +95,9 @@ pub fn at_walkers() {
     never_stuck::<Walkers>();
     complete::<Walkers>();
     by_owners::<Walkers>();
-    counted::<Walkers>();
+    label_counts::<Walkers>();
     bounded::<Walkers>();
-    listed::<Walkers>();
+    lists_are_exact::<Walkers>();
     sorted::<Walkers>();
     listed_for::<Walkers>();
     empty_at_end::<Walkers>();
@@ -115,7 +116,7 @@ pub fn given_at_the_counter() {
     holding::<Counter>();
     holders::<Counter>();
     agree::<Counter>();
-    sent::<Counter>();
+    sends::<Counter>();
     within::<Counter>();
     loads::<Counter>();
     all_moves::<Counter>();
@@ -134,7 +135,7 @@ pub fn given_at_movers() {
     holding::<Movers>();
     holders::<Movers>();
     agree::<Movers>();
-    sent::<Movers>();
+    sends::<Movers>();
     within::<Movers>();
     loads::<Movers>();
     all_moves::<Movers>();
@@ -153,7 +154,7 @@ pub fn given_at_walkers() {
     holding::<Walkers>();
     holders::<Walkers>();
     agree::<Walkers>();
-    sent::<Walkers>();
+    sends::<Walkers>();
     within::<Walkers>();
     loads::<Walkers>();
     all_moves::<Walkers>();

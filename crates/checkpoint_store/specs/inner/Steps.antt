@@ -17,11 +17,11 @@ use Rattle.checkpoint_store.specs.declared.error.Fault.TheVariants as fault
 use Rattle.checkpoint_store.specs.declared.form.Form.{Form}
 use Rattle.checkpoint_store.specs.declared.form.Form.TheVariants as form
 use Rattle.checkpoint_store.specs.declared.numbers.Numbers.{Numbers}
-use Rattle.checkpoint_store.specs.CheckpointTexts.{numbers_text, ended}
+use Rattle.checkpoint_store.specs.CheckpointTexts.{numbers_text, lines_text}
 use Rattle.checkpoint_store.specs.Dues.{Due, First, Counts, Classes, ClassOf, PlaceOf, Last, IsDue}
 use Rattle.checkpoint_store.specs.Forms.{cut_at, is_numbers, is_count, is_class_line, IsPlaceLine}
 use Rattle.checkpoint_store.specs.Points.{AreInRange}
-use Rattle.checkpoint_store.specs.Refusals.{refused}
+use Rattle.checkpoint_store.specs.Refusals.{error_at}
 use Rattle.checkpoint_store.specs.Verdicts.{Begins, BeginsWrong, StopsAt, IsWrongTail}
 
 -- ---- numbers
@@ -95,7 +95,7 @@ BeginsWrongBy form text f = (HasNone 10 text × (f ≡ fault.Syntax)) ⊎ ((line
 
 -- the line at the front has this fault; want of memory says nothing
 abbrev pub IsRefusal : Shape → ℕ → Due → List ℕ → ℕ → CheckError → Type 0
-IsRefusal shape hosts due text n e = (e ≡ error.OutOfMemory the_refusal) ⊎ ((f : Fault) × BeginsWrong shape hosts due text f × (e ≡ refused f n))
+IsRefusal shape hosts due text n e = (e ≡ error.OutOfMemory the_refusal) ⊎ ((f : Fault) × BeginsWrong shape hosts due text f × (e ≡ error_at f n))
 
 -- the text does not begin with such a line
 abbrev pub BeginsOther : Shape → ℕ → Due → List ℕ → Type 0
@@ -111,16 +111,16 @@ IsRefusalFor form wanted text n e = (shape : Shape) (hosts : ℕ) (due : Due) �
 
 -- one of these lines is refused, and `before` others stand before them
 abbrev pub StopsWith : Shape → ℕ → List Due → List ℕ → ℕ → CheckError → Type 0
-StopsWith shape hosts dues text before e = (e ≡ error.OutOfMemory the_refusal) ⊎ ((f : Fault) × (n : ℕ) × StopsAt shape hosts dues text f n × (e ≡ refused f (before + n)))
+StopsWith shape hosts dues text before e = (e ≡ error.OutOfMemory the_refusal) ⊎ ((f : Fault) × (n : ℕ) × StopsAt shape hosts dues text f n × (e ≡ error_at f (before + n)))
 
 -- the lines of these places begin the text
 pub record HasPlaces (shape : Shape) (hosts : ℕ) (paths : List Path) (places : List Place) (text rest : List ℕ) : Type 0 where
-  pub spelled : text ≡ ended (map (place_text shape) places) ++ rest
+  pub spelled : text ≡ lines_text (map (place_text shape) places) ++ rest
   pub paths_are : map (λ x. x.path) places ≡ paths
   pub below : All (λ (x : Place). x.host.0 < hosts) places
 
 abbrev pub IsTailRefusal : Shape → ℕ → List Path → List ℕ → ℕ → CheckError → Type 0
-IsTailRefusal shape hosts paths text before e = (e ≡ error.OutOfMemory the_refusal) ⊎ ((f : Fault) × (n : ℕ) × IsWrongTail shape hosts paths text f n × (e ≡ refused f (before + n)))
+IsTailRefusal shape hosts paths text before e = (e ≡ error.OutOfMemory the_refusal) ⊎ ((f : Fault) × (n : ℕ) × IsWrongTail shape hosts paths text f n × (e ≡ error_at f (before + n)))
 
 -- ---- the snapshot within the text
 

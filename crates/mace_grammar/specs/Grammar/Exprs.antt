@@ -5,17 +5,17 @@ use Rattle.mace_ast.specs.declared.name.Name.{Name}
 use Rattle.mace_ast.specs.declared.expr.BinaryOp.{BinaryOp}
 use Rattle.mace_ast.specs.Exprs as e
 use Rattle.mace_ast.specs.Exprs.{ExprTree, exprs_of, place_of}
-use Rattle.mace_grammar.specs.Part.{Part, pure, ◌>>=◌, ◌>>◌, ◌or◌, many, maybe, deep}
+use Rattle.mace_grammar.specs.Part.{Part, pure, ◌>>=◌, ◌>>◌, ◌or◌, many, maybe, deep_part}
 use Rattle.mace_grammar.specs.Words.{Edition, sign, name, literal, or_op, and_op, comparison_op, sum_op, product_op, operator, unary_op}
 use Rattle.mace_grammar.specs.Grammar.Lists.{in_parens}
 
 -- a left operand with an operator and a right one
-abbrev pub joined : ExprTree → BinaryOp × ExprTree → ExprTree
-joined left right = e.Binary (place_of left) right.0 left right.1
+abbrev pub binary_of : ExprTree → BinaryOp × ExprTree → ExprTree
+binary_of left right = e.Binary (place_of left) right.0 left right.1
 
-abbrev pub compared : ExprTree → Option (BinaryOp × ExprTree) → ExprTree
-compared left None = left
-compared left (Some right) = joined left right
+abbrev pub comparison_of : ExprTree → Option (BinaryOp × ExprTree) → ExprTree
+comparison_of left None = left
+comparison_of left (Some right) = binary_of left right
 
 -- an operator and its right operand
 abbrev pub operand : Part BinaryOp → Part ExprTree → Part (BinaryOp × ExprTree)
@@ -29,7 +29,7 @@ abbrev pub chain : Part ExprTree → Part BinaryOp → Part ExprTree
 chain item operator = do
   first ← item
   others ← many (operand operator item)
-  pure (fold joined first others)
+  pure (fold binary_of first others)
 
 -- ---- what a version changes, and what is made of it
 
@@ -52,7 +52,7 @@ module _ (edition : Edition) where
     comparison = do
       left ← sum
       right ← maybe (operand (operator comparison_op) sum)
-      pure (compared left right)
+      pure (comparison_of left right)
 
     -- And = Cmp ("&&" Cmp)*
     abbrev pub conjunction : Part ExprTree
@@ -142,7 +142,7 @@ module _ (edition : Edition) where
     signed_or_primary = signed or primary
 
   abbrev pub unary : Part ExprTree
-  unary = deep signed_or_primary
+  unary = deep_part signed_or_primary
 
   unfoldable pub any_expr : Part ExprTree
   any_expr = expr unary

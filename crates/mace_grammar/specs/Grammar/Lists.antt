@@ -5,8 +5,8 @@ use Rattle.mace_grammar.specs.Part.{Part, pure, ◌>>=◌, ◌>>◌, many, maybe
 use Rattle.mace_grammar.specs.Words.{sign}
 
 -- Item ("," Item)*
-abbrev pub listed : {A : Type 0} → Part A → Part (List A)
-listed item = do
+abbrev pub comma_list : {A : Type 0} → Part A → Part (List A)
+comma_list item = do
   first ← item
   others ← many (sign s.Comma >> item)
   pure (first ∷ others)
@@ -15,6 +15,6 @@ listed item = do
 abbrev pub in_parens : {A : Type 0} → Part A → Part (List A)
 in_parens item = do
   sign s.LeftParen
-  found ← maybe (listed item)
+  found ← maybe (comma_list item)
   sign s.RightParen
   pure (unwrap_or found [])

@@ -6,7 +6,7 @@ use Rattle.mace_ast.specs.declared.name.Name.{Name}
 use Rattle.mace_ast.specs.declared.stmt.Target.{Target}
 use Rattle.mace_ast.specs.Stmts as st
 use Rattle.mace_ast.specs.Stmts.{StmtTree, stmts_of, else_of}
-use Rattle.mace_grammar.specs.Part.{Part, pure, ◌>>=◌, ◌>>◌, ◌or◌, many, maybe, deep}
+use Rattle.mace_grammar.specs.Part.{Part, pure, ◌>>=◌, ◌>>◌, ◌or◌, many, maybe, deep_part}
 use Rattle.mace_grammar.specs.Words.{Edition, key, sign, name, leave, finish, text}
 use Rattle.mace_grammar.specs.Grammar.Exprs.{any_expr, any_arguments, any_key, field}
 
@@ -150,7 +150,7 @@ module _ (edition : Edition) where
     any_stmt = let_stmt or if_stmt or while_stmt or for_stmt or return_stmt or finish_stmt or require_stmt or send_stmt or spawn_stmt or drop_stmt or set_stmt or call_stmt or child_call_stmt
 
   abbrev pub stmt : Part StmtTree
-  stmt = deep any_stmt
+  stmt = deep_part any_stmt
 
   unfoldable pub stmts : Part (List StmtTree)
   stmts = many stmt

@@ -26,7 +26,7 @@ use Rattle.mace_grammar.specs.declared.class.Class.{Class}
 use Rattle.mace_grammar.specs.declared.class.Class.TheVariants as class
 use Rattle.mace_grammar.specs.inner.Classes as classes
 use Rattle.mace_grammar.specs.Words.{Edition, first, edition_of, two_word, initial_word}
-use Rattle.mace_grammar.specs.inner.Run.{Reader, ◌>>=◌, ◌>>◌, give, word, choice, each_of, some, deeper}
+use Rattle.mace_grammar.specs.inner.Run.{Reader, ◌>>=◌, ◌>>◌, give, word, choice, each_of, some, nested_reader}
 
 unfoldable pub minus_number_at : Reader Initial
 minus_number_at = do
@@ -151,7 +151,7 @@ module _ (edition : Edition) where
     give (Context at x vars (contexts_of contexts) methods)
 
   abbrev pub context_at : ℕ → Reader ContextTree
-  context_at = deeper one_context_at
+  context_at = nested_reader one_context_at
 
 -- the number of the version
 abbrev pub two_at : Reader Version

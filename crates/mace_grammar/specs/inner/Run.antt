@@ -21,13 +21,13 @@ give a = λ ts. Ok (a, ts)
 abbrev pub after : {A B : Type 0} → Reader A → (A → Reader B) → Reader B
 after p q = λ ts. and_then (p ts) q
 
-abbrev pub taken : {A : Type 0} → List Token → List Token → Option A → Outcome A
-taken all rest (Some a) = Ok (a, rest)
-taken all rest None = Err all
+abbrev pub outcome_of : {A : Type 0} → List Token → List Token → Option A → Outcome A
+outcome_of all rest (Some a) = Ok (a, rest)
+outcome_of all rest None = Err all
 
 abbrev pub word : {A : Type 0} → (Token → Option A) → Reader A
 word f [] = Err []
-word f (t ∷ ts) = taken (t ∷ ts) ts (f t)
+word f (t ∷ ts) = outcome_of (t ∷ ts) ts (f t)
 
 -- what is left behind the value, or where the reader is stuck
 abbrev pub rest_of : {A : Type 0} → Outcome A → List Token
@@ -70,6 +70,6 @@ module _ (class : Token → Class) where
   each_of f run ts = each f run (length ts) ts
 
 -- what leads back to itself, at most this deep
-abbrev pub deeper : {A : Type 0} → (ℕ → Reader A → Reader A) → ℕ → Reader A
-deeper body zero ts = Err ts
-deeper body (suc n) ts = body n (deeper body n) ts
+abbrev pub nested_reader : {A : Type 0} → (ℕ → Reader A → Reader A) → ℕ → Reader A
+nested_reader body zero ts = Err ts
+nested_reader body (suc n) ts = body n (nested_reader body n) ts

@@ -2,7 +2,7 @@
 use Rattle.std.specs.Prelude.{◌≡◌, ℕ, suc, ◌<◌, ◌≤◌, Bool, false, ◌&&◌, ◌||◌, ◌==◌, if◌then◌else◌, List, ◌∷◌, ◌++◌, length, drop, slice_index, All}
 use Rattle.std.specs.Char.{is_ascii_digit}
 use Rattle.wave_base.specs.Names.{is_name_start, is_name_byte}
-use Rattle.wave_base.specs.Text.{IsPrintable, escaped}
+use Rattle.wave_base.specs.Text.{IsPrintable, escaped_text}
 use Rattle.mace_lexer.specs.declared.cut.Class.{Class}
 use Rattle.mace_lexer.specs.declared.cut.Class.TheVariants as class
 use Rattle.mace_lexer.specs.declared.cut.Cut.{Cut}
@@ -42,8 +42,8 @@ IsCut text (cut.Fault e n) = (n ≤ length text) × Fails text e n
 
 -- a text's inside: behind the quote these bytes are meant, they reach to byte n, and no more of them stand there
 pub record IsBody (text t : List ℕ) (n : ℕ) : Type 0 where
-  pub split : text ≡ 34 ∷ (escaped t ++ drop n text)
+  pub split : text ≡ 34 ∷ (escaped_text t ++ drop n text)
   pub printable : All IsPrintable t
-  pub reach : n ≡ suc (length (escaped t))
+  pub reach : n ≡ suc (length (escaped_text t))
   pub within : n ≤ length text
   pub ends : is_byte (inside_of (drop n text)) ≡ false

@@ -15,18 +15,18 @@ use Rattle.script_fold.specs.declared.visits.Load.{Load}
 use Rattle.script_fold.specs.declared.visits.Visits.{Visits}
 
 -- what is kept at a path
-abbrev pub found : {V : Type 0} → List (Path × V) → Path → Option V
-found es p = lookup (is_at (path_cmp p)) es
+abbrev pub value_at : {V : Type 0} → List (Path × V) → Path → Option V
+value_at es p = lookup (is_at (path_cmp p)) es
 
 -- host 0 stands for that of a context that is not there
 abbrev pub host_at : List (Path × Host) → Path → Host
-host_at hs p = unwrap_or (found hs p) (record { 0 = 0 })
+host_at hs p = unwrap_or (value_at hs p) (record { 0 = 0 })
 
-abbrev pub unseen : Load
-unseen = record { count = 0; last = 0 }
+abbrev pub no_load : Load
+no_load = record { count = 0; last = 0 }
 
 abbrev pub load_at : List (Path × Load) → Path → Load
-load_at ls p = unwrap_or (found ls p) unseen
+load_at ls p = unwrap_or (value_at ls p) no_load
 
 -- a job that enters counts once
 abbrev pub with_job : ℕ → Load → Load
@@ -53,8 +53,8 @@ pub record IsVisited (hosts : Tree ℕ) (earlier : List (List Path)) (now : List
   pub host : (p : Path) → (host_at v.hosts.entries p).0 ≡ hosts.fields p
   pub seen : (p : Path) → IsSeen (length earlier) (load_of earlier p) (list_any (path_eq p) now) (load_at v.loads.entries p)
   -- a load is that of a context that is there, and some job entered it
-  pub within : (p : Path) → is_some (found v.loads.entries p) ≡ true → there hosts p ≡ true
-  pub entered : (p : Path) → is_some (found v.loads.entries p) ≡ true → 1 ≤ (load_at v.loads.entries p).count
+  pub within : (p : Path) → is_some (value_at v.loads.entries p) ≡ true → there hosts p ≡ true
+  pub entered : (p : Path) → is_some (value_at v.loads.entries p) ≡ true → 1 ≤ (load_at v.loads.entries p).count
 
 -- a context that is told to be moved is there once these were entered
 abbrev pub IsMoveWithin : Tree ℕ → List Path → Outcome → Type 0
@@ -63,5 +63,5 @@ IsMoveWithin hosts paths outcome = IfSome (move_in outcome) (λ m. there (with_c
 -- each context stands once, in path order; a load is that of one of them, and some job entered it
 pub record AreInOrder (v : Visits) : Type 0 where
   pub sorted : IsStrictlySortedBy path_cmp (keys_of v.hosts.entries)
-  pub within : (p : Path) → is_some (found v.loads.entries p) ≡ true → is_some (found v.hosts.entries p) ≡ true
-  pub entered : (p : Path) → is_some (found v.loads.entries p) ≡ true → 1 ≤ (load_at v.loads.entries p).count
+  pub within : (p : Path) → is_some (value_at v.loads.entries p) ≡ true → is_some (value_at v.hosts.entries p) ≡ true
+  pub entered : (p : Path) → is_some (value_at v.loads.entries p) ≡ true → 1 ≤ (load_at v.loads.entries p).count

@@ -8,7 +8,7 @@ use Rattle.script_reader.specs.declared.error.ScriptError.TheVariants.{OutOfMemo
 use Rattle.script_reader.specs.declared.told.Told.{Told}
 use Rattle.script_reader.specs.declared.worded.Worded.{Worded}
 use Rattle.script_reader.specs.Elastics.{IsOnlyWorded, judged_worded}
-use Rattle.script_reader.specs.Scripts.{refused}
+use Rattle.script_reader.specs.Scripts.{error_at}
 use Rattle.script_reader.specs.inner.ElasticProgressed.{with_told}
 use Rattle.std.specs.Prelude.{Result}
 
@@ -29,7 +29,7 @@ pub record IsElasticRefused (shape : Shape) (line : List ℕ) (before : ElasticP
   pub fault : Fault
   pub says : IsOnlyWorded line worded
   pub judged_is : judged_now shape before worded ≡ Err fault
-  pub error_is : error ≡ refused fault number
+  pub error_is : error ≡ error_at fault number
 
 -- the line is refused; want of memory says nothing
 abbrev pub IsElasticStop : Shape → List ℕ → ElasticProgress → ℕ → ScriptError → Type 0

@@ -13,7 +13,7 @@ use Rattle.script_reader.specs.declared.refusal.Refusal.TheVariants as refusal
 use Rattle.script_reader.specs.declared.said.Said.{Said}
 use Rattle.script_reader.specs.declared.taken.Taken.{Taken}
 use Rattle.script_reader.specs.inner.Progressed.{with_taken}
-use Rattle.script_reader.specs.Scripts.{IsOnlySaid, judged, refused}
+use Rattle.script_reader.specs.Scripts.{IsOnlySaid, judgment, error_at}
 
 -- a text of a length that can be placed, for a shape, behind what may have been said before
 pub record MayRead (shape : Shape) (earlier : Earlier) (text : List ℕ) : Type 0 where
@@ -28,19 +28,19 @@ pub record IsStep (shape : Shape) (line : List ℕ) (before after : Progress) : 
   pub said : Said
   pub taken : Taken
   pub says : IsOnlySaid line said
-  pub judged_is : judged shape before.hosts before.begun before.events said ≡ Ok taken
+  pub judged_is : judgment shape before.hosts before.begun before.events said ≡ Ok taken
   pub after_is : after ≡ with_taken before taken
 
-abbrev pub stopped : Refusal → ℕ → ScriptError
-stopped (refusal.Fault f) number = refused f number
-stopped (refusal.OutOfMemory refused) number = OutOfMemory refused
+abbrev pub error_of_refusal : Refusal → ℕ → ScriptError
+error_of_refusal (refusal.Fault f) number = error_at f number
+error_of_refusal (refusal.OutOfMemory error_at) number = OutOfMemory error_at
 
 pub record IsRefused (shape : Shape) (line : List ℕ) (before : Progress) (number : ℕ) (error : ScriptError) : Type 0 where
   pub said : Said
   pub fault : Fault
   pub says : IsOnlySaid line said
-  pub judged_is : judged shape before.hosts before.begun before.events said ≡ Err fault
-  pub error_is : error ≡ refused fault number
+  pub judged_is : judgment shape before.hosts before.begun before.events said ≡ Err fault
+  pub error_is : error ≡ error_at fault number
 
 -- the line is refused; want of memory says nothing
 abbrev pub IsStop : Shape → List ℕ → Progress → ℕ → ScriptError → Type 0

@@ -18,8 +18,8 @@ pub record Draft : Type 0 where
   pub count : ℕ
 
 -- a function begins
-abbrev pub started : List Function → List Text → Draft
-started functions texts = record { functions = functions; texts = texts; lines = []; count = 0 }
+abbrev pub new_draft : List Function → List Text → Draft
+new_draft functions texts = record { functions = functions; texts = texts; lines = []; count = 0 }
 
 -- numbers of 16 bits are enough for functions and lines, and of 32 bits for texts
 pub record HasRoom (functions : List Function) (texts : List Text) (lines : List Line) : Type 0 where

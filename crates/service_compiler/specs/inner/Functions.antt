@@ -7,7 +7,7 @@ use Rattle.code_scheme.specs.Programs.{told_length}
 use Rattle.code_scheme.specs.Texts.{Text, with_texts}
 use Rattle.service_compiler.specs.declared.error.CompileError.{CompileError}
 use Rattle.service_compiler.specs.declared.error.CompileError.TheVariants.{CodeTooLong, OutOfMemory}
-use Rattle.service_compiler.specs.inner.Drafts.{Draft, started, GoOn, Holds}
+use Rattle.service_compiler.specs.inner.Drafts.{Draft, new_draft, GoOn, Holds}
 
 -- none is too long
 abbrev pub AreShort : List Function → Type 0
@@ -15,7 +15,7 @@ AreShort fs = All (λ (f : Function). length f.code ≤ INSTRUCTIONS) fs
 
 -- a function begins, behind functions that are not too long
 pub record IsReady (d : Draft) : Type 0 where
-  pub begins : d ≡ started d.functions d.texts
+  pub begins : d ≡ new_draft d.functions d.texts
   pub short : AreShort d.functions
 
 -- all lines of a function are written, which use these texts

@@ -8,7 +8,7 @@ use Rattle.context_tree.specs.Contexts.{Contexts}
 use Rattle.resolved_service.specs.declared.service.Method.{Method}
 use Rattle.resolved_service.specs.declared.stmt.Stmt.{Stmt}
 use Rattle.resolved_service.specs.Fits.{FitsStep, FitsSteps}
-use Rattle.resolved_service.specs.Meaning.{effect, effects, called}
+use Rattle.resolved_service.specs.Meaning.{effect, effects, call_act}
 use Rattle.resolved_service.specs.Steps.{Step, Steps, steps_in}
 use Rattle.service_eval.specs.declared.code.Code.{Code}
 use Rattle.service_eval.specs.declared.machine.Machine.{Machine}
@@ -21,7 +21,7 @@ use Rattle.service_eval.specs.inner.Weight.{step_weight, steps_weight}
 
 -- some statements were done, and those that are left come to what all of them do
 pub record Advances (code : Code) (contexts : Contexts) (m : Machine) (all : Steps) (contexts' : Contexts) (m' : Machine) (left : Steps) : Type 0 where
-  pub same : effects (called code.methods.now TICKS) TICKS m.path all (mach code contexts m).state ≡ effects (called code.methods.now TICKS) TICKS m.path left (mach code contexts' m').state
+  pub same : effects (call_act code.methods.now TICKS) TICKS m.path all (mach code contexts m).state ≡ effects (call_act code.methods.now TICKS) TICKS m.path left (mach code contexts' m').state
   pub to : mach code contexts' m' ≡ in_state (mach code contexts' m').state (mach code contexts m)
   pub ready : Ready code.shape.now code.methods.now (mach code contexts' m')
   pub fits : FitsSteps code.shape.now code.methods.now (class_of m.path) left
@@ -35,11 +35,11 @@ AdvancesBy code contexts m all contexts' m' None = mach code contexts' m' ≡ ma
 
 -- the statements fail
 abbrev pub StopsIn : Code → Contexts → Machine → Steps → Contexts → Machine → Stop → Type 0
-StopsIn code contexts m all contexts' m' e = Does code contexts m (effects (called code.methods.now TICKS) TICKS m.path all) (Err e) contexts' m'
+StopsIn code contexts m all contexts' m' e = Does code contexts m (effects (call_act code.methods.now TICKS) TICKS m.path all) (Err e) contexts' m'
 
 -- a block does what a statement does, and weighs less
 pub record Stands (code : Code) (contexts : Contexts) (m : Machine) (whole : Step) (block : Steps) : Type 0 where
-  pub same : effect (called code.methods.now TICKS) TICKS m.path whole (mach code contexts m).state ≡ effects (called code.methods.now TICKS) TICKS m.path block (mach code contexts m).state
+  pub same : effect (call_act code.methods.now TICKS) TICKS m.path whole (mach code contexts m).state ≡ effects (call_act code.methods.now TICKS) TICKS m.path block (mach code contexts m).state
   pub fits : (shape : Shape) (methods : List Method) (class : ℕ) → FitsStep shape methods class whole → FitsSteps shape methods class block
   pub less : (n : ℕ) → steps_weight n block < step_weight n whole
 
@@ -47,4 +47,4 @@ pub record Stands (code : Code) (contexts : Contexts) (m : Machine) (whole : Ste
 abbrev pub Chooses : Code → Contexts → Machine → Step → Result (Option (Bor (List Stmt))) Stop → Type 0
 Chooses code contexts m whole (Ok (Some block)) = Stands code contexts m whole (steps_in block.now)
 Chooses code contexts m whole (Ok None) = Unit {0}
-Chooses code contexts m whole (Err e) = Traps (effect (called code.methods.now TICKS) TICKS m.path whole (mach code contexts m).state) e (mach code contexts m).state.world
+Chooses code contexts m whole (Err e) = Traps (effect (call_act code.methods.now TICKS) TICKS m.path whole (mach code contexts m).state) e (mach code contexts m).state.world

@@ -42,9 +42,9 @@ value_in (operand.Held v) = v.now
 value_in (operand.Made v) = v
 
 -- what an operator gives, as an operand of its own
-abbrev pub made : Result Value Stop → Result (Option Operand) Stop
-made (Ok v) = Ok (Some (operand.Made v))
-made (Err e) = Err e
+abbrev pub made_operand : Result Value Stop → Result (Option Operand) Stop
+made_operand (Ok v) = Ok (Some (operand.Made v))
+made_operand (Err e) = Err e
 
 -- a value that is found without any change; or nothing is said
 abbrev pub Looks : Outcome Value → State → Result (Option Operand) Stop → Type 0
@@ -65,6 +65,6 @@ FindsTwo first second st (Ok (Some vs)) = (first ≡ Done vs.0 st) × (second st
 FindsTwo first second st (Err e) = Traps (and_then first (λ _. second)) e st.world
 
 -- that a change was made, or why it wasn't
-abbrev pub told : Result (Unit {0}) Stop → Result Bool Stop
-told (Ok _) = Ok true
-told (Err e) = Err e
+abbrev pub change_made : Result (Unit {0}) Stop → Result Bool Stop
+change_made (Ok _) = Ok true
+change_made (Err e) = Err e

@@ -19,26 +19,26 @@ use Rattle.service_eval.specs.declared.work.Variable.TheVariants as variable
 use Rattle.service_eval.specs.inner.Turns.{Alters}
 
 -- what a value becomes
-abbrev pub edited : Edit → Value → Answer Value
-edited (edit.Set new) before = Ok new
-edited (edit.Put key new) before = apply_row row_put (before ∷ key ∷ new ∷ [])
-edited (edit.Cut key) before = apply_row row_cut (before ∷ key ∷ [])
+abbrev pub edited_value : Edit → Value → Answer Value
+edited_value (edit.Set new) before = Ok new
+edited_value (edit.Put key new) before = apply_row row_put (before ∷ key ∷ new ∷ [])
+edited_value (edit.Cut key) before = apply_row row_cut (before ∷ key ∷ [])
 
 -- a variable of the context at a path is changed
 abbrev pub changing : Path → Span → Variable → Edit → Act (Unit {0})
 changing p at (variable.Local slot) what = do
   before ← get_local slot
-  after ← answer (edited what before) at
+  after ← answer (edited_value what before) at
   set_local slot after
 changing p at (variable.Field f) what = do
   before ← get_field f p
-  after ← answer (edited what before) at
+  after ← answer (edited_value what before) at
   put_field f p after
 
 -- one of some values is changed, and the others stay; one that is not there counts as a number
 pub record Revises (what : Edit) (at : Span) (before : List Value) (i : ℕ) (result : Result (Unit {0}) Stop) (after : List Value) : Type 0 where
   pub value : Value
-  pub alters : Alters (edited what (get_or before i nothing)) at (get_or before i nothing) result value
+  pub alters : Alters (edited_value what (get_or before i nothing)) at (get_or before i nothing) result value
   pub list : after ≡ slice_set before i value
 
 -- the statement at a place that changes a variable

@@ -10,14 +10,14 @@ use Rattle.wave_base.specs.Tree.{Tree as Contexts}
 use Rattle.value_ops.specs.Operators.{apply_row}
 use Rattle.resolved_service.specs.declared.service.Last.{Last}
 use Rattle.resolved_service.specs.declared.service.Method.{Method}
-use Rattle.resolved_service.specs.Meaning.{State, Returned, Finished, Outcome, Done, Trapped, Left, Act, and_then, ◌>>=◌, ◌>>◌, give, answer, with_world, tick, enter_at, back, choose, get_local, set_local, get_field, put_field, demand, leave, row_add, row_put, row_cut, worth, value, values, while_turns, for_test, for_body, effect, effects, with_blanks, called}
+use Rattle.resolved_service.specs.Meaning.{State, Returned, Finished, Outcome, Done, Trapped, Left, Act, and_then, ◌>>=◌, ◌>>◌, give, answer, with_world, tick, enter_at, back, choose, get_local, set_local, get_field, put_field, demand, leave, row_add, row_put, row_cut, worth, value, values, while_turns, for_test, for_body, effect, effects, with_blanks, call_act}
 use Rattle.resolved_service.specs.Steps.{steps_in}
 use Rattle.resolved_service.specs.View.{tree_of}
 use Rattle.resolved_service.specs.World.{World, nothing, is_true, child, sending, spawning}
 use Rattle.service_eval.specs.declared.machine.Machine.{Machine}
 use Rattle.service_eval.specs.declared.work.Caller.{Caller}
 use Rattle.service_eval.specs.inner.Items.{End, SetLocal, SetField, PutLocal, PutField, CutLocal, CutField, Branch, Require, Send, Spawn, Drop, Returns, Finishes, Item, Eval, Evals, Apply, AndThen, OrElse, Invoke, Child, Block, Begin, Finish, Turns, Check, Counts, Again, Return, item_of}
-use Rattle.service_eval.specs.inner.Traces.{plain, world_of}
+use Rattle.service_eval.specs.inner.Traces.{uncounted_outcome, world_of}
 
 -- what is to be done next stands first
 pub record Mach : Type 0 where
@@ -102,28 +102,28 @@ next counter at = do
 -- whole event, which no event uses up.
 module _ (methods : List Method) (p : Path) where
   abbrev pub act : Item → List Value → Act (List Value)
-  act (Eval t) vs = value (called methods TICKS) p t >>= (λ v. give (vs ++ v ∷ []))
-  act (Evals ts) vs = values (called methods TICKS) p ts >>= (λ more. give (vs ++ more))
+  act (Eval t) vs = value (call_act methods TICKS) p t >>= (λ v. give (vs ++ v ∷ []))
+  act (Evals ts) vs = values (call_act methods TICKS) p ts >>= (λ more. give (vs ++ more))
   act (Apply at row base) vs = answer (apply_row row (drop base vs)) at >>= (λ v. give (take base vs ++ v ∷ []))
-  act (AndThen right base) vs = choose (is_true (own 0 base vs)) (value (called methods TICKS) p right) (give (Truth false)) >>= (λ v. give (take base vs ++ v ∷ []))
-  act (OrElse right base) vs = choose (is_true (own 0 base vs)) (give (Truth true)) (value (called methods TICKS) p right) >>= (λ v. give (take base vs ++ v ∷ []))
+  act (AndThen right base) vs = choose (is_true (own 0 base vs)) (value (call_act methods TICKS) p right) (give (Truth false)) >>= (λ v. give (take base vs ++ v ∷ []))
+  act (OrElse right base) vs = choose (is_true (own 0 base vs)) (give (Truth true)) (value (call_act methods TICKS) p right) >>= (λ v. give (take base vs ++ v ∷ []))
   act (Invoke at method base) vs = do
     tick at
-    result ← called methods TICKS method p (drop base vs)
+    result ← call_act methods TICKS method p (drop base vs)
     give (take base vs ++ worth result ∷ [])
   act (Child at class method base) vs = do
     tick at
     enter_at (child p class (own 0 base vs)) at
-    result ← called methods TICKS method (child p class (own 0 base vs)) (drop (suc base) vs)
+    result ← call_act methods TICKS method (child p class (own 0 base vs)) (drop (suc base) vs)
     back
     give (take base vs ++ worth result ∷ [])
-  act (Block steps) vs = effects (called methods TICKS) TICKS p steps >> give vs
-  act (Begin s) vs = effect (called methods TICKS) TICKS p s >> give vs
-  act (Finish at what base) vs = finish (called methods TICKS) TICKS p at (drop base vs) what >> give (take base vs)
-  act (Turns at test body) vs = while_turns TICKS (value (called methods TICKS) p test) (effects (called methods TICKS) TICKS p body) at >> give vs
-  act (Check at test body base) vs = turn_on (value (called methods TICKS) p test) (effects (called methods TICKS) TICKS p body) at (own 0 base vs) >> give (take base vs)
-  act (Counts at counter body) vs = while_turns TICKS (for_test counter at) (for_body counter at (effects (called methods TICKS) TICKS p body)) at >> give vs
-  act (Again at counter body) vs = next counter at >> (while_turns TICKS (for_test counter at) (for_body counter at (effects (called methods TICKS) TICKS p body)) at >> give vs)
+  act (Block steps) vs = effects (call_act methods TICKS) TICKS p steps >> give vs
+  act (Begin s) vs = effect (call_act methods TICKS) TICKS p s >> give vs
+  act (Finish at what base) vs = finish (call_act methods TICKS) TICKS p at (drop base vs) what >> give (take base vs)
+  act (Turns at test body) vs = while_turns TICKS (value (call_act methods TICKS) p test) (effects (call_act methods TICKS) TICKS p body) at >> give vs
+  act (Check at test body base) vs = turn_on (value (call_act methods TICKS) p test) (effects (call_act methods TICKS) TICKS p body) at (own 0 base vs) >> give (take base vs)
+  act (Counts at counter body) vs = while_turns TICKS (for_test counter at) (for_body counter at (effects (call_act methods TICKS) TICKS p body)) at >> give vs
+  act (Again at counter body) vs = next counter at >> (while_turns TICKS (for_test counter at) (for_body counter at (effects (call_act methods TICKS) TICKS p body)) at >> give vs)
   act (Return locals below up) vs = give vs
 
 abbrev pub path_after : Bool → Path → Path
@@ -131,11 +131,11 @@ path_after true p = parent_of p
 path_after false p = p
 
 -- the caller has its locals and values again, and the value of the call, which may have returned early
-abbrev pub returned : List Value → List Value → Outcome (List Value) → Outcome (List Value)
-returned locals below (Done vs st) = Done (below ++ get_or vs 0 nothing ∷ []) (record { locals = locals; world = st.world })
-returned locals below (Trapped k at w) = Trapped k at w
-returned locals below (Left (Returned r) st) = Done (below ++ worth r ∷ []) (record { locals = locals; world = st.world })
-returned locals below (Left (Finished r) st) = Left (Finished r) (record { locals = locals; world = st.world })
+abbrev pub after_return : List Value → List Value → Outcome (List Value) → Outcome (List Value)
+after_return locals below (Done vs st) = Done (below ++ get_or vs 0 nothing ∷ []) (record { locals = locals; world = st.world })
+after_return locals below (Trapped k at w) = Trapped k at w
+after_return locals below (Left (Returned r) st) = Done (below ++ worth r ∷ []) (record { locals = locals; world = st.world })
+after_return locals below (Left (Finished r) st) = Left (Finished r) (record { locals = locals; world = st.world })
 
 -- where nothing is left to do: the values that are there, and where
 pub record Rest : Type 0 where
@@ -149,7 +149,7 @@ module _ (methods : List Method) where
   -- all that is to be done, after what was done so far
   abbrev pub resume : List Item → Path → Outcome (List Value) → Outcome Rest
   resume [] p out = and_then out (λ vs. give (rest_at p vs))
-  resume (Return locals below up ∷ items) p out = resume items (path_after up p) (returned locals below out)
+  resume (Return locals below up ∷ items) p out = resume items (path_after up p) (after_return locals below out)
   resume (Eval t ∷ items) p out = resume items p (and_then out (act methods p (Eval t)))
   resume (Evals ts ∷ items) p out = resume items p (and_then out (act methods p (Evals ts)))
   resume (Apply at row base ∷ items) p out = resume items p (and_then out (act methods p (Apply at row base)))
@@ -167,23 +167,23 @@ module _ (methods : List Method) where
 
   -- what that comes to, but for how often the event changes its place
   abbrev pub come_of : List Item → Path → Outcome (List Value) → Outcome Rest
-  come_of items p out = plain (resume items p out)
+  come_of items p out = uncounted_outcome (resume items p out)
 
   -- what a machine comes to
   abbrev pub comes_to : Mach → Outcome Rest
   comes_to m = come_of m.items m.path (Done m.values m.state)
 
 -- back at the parent
-abbrev pub risen : Mach → Mach
-risen m = record m { path = parent_of m.path }
+abbrev pub at_parent : Mach → Mach
+at_parent m = record m { path = parent_of m.path }
 
 abbrev pub with_last : Option Last → List Item → List Item
 with_last None items = items
 with_last (Some last) items = Eval (tree_of last.value) ∷ items
 
 -- a method is to run with these arguments, and then to return
-abbrev pub started : Method → List Value → Bool → Mach → Mach
-started method given up m = record {
+abbrev pub method_start : Method → List Value → Bool → Mach → Mach
+method_start method given up m = record {
   items = Block (steps_in method.body) ∷ with_last method.last (Return m.state.locals m.values up ∷ m.items);
   values = [];
   path = m.path;

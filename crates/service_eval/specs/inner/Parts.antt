@@ -11,7 +11,7 @@ use Rattle.service_eval.specs.declared.code.Code.{Code}
 use Rattle.service_eval.specs.declared.machine.Machine.{Machine}
 use Rattle.service_eval.specs.declared.stop.Stop.{Stop}
 use Rattle.service_eval.specs.inner.Ready.{Ready}
-use Rattle.service_eval.specs.inner.Traces.{plain, Fails}
+use Rattle.service_eval.specs.inner.Traces.{uncounted_outcome, Fails}
 use Rattle.service_eval.specs.inner.Turns.{mach}
 
 -- nothing is left to do, and no value waits
@@ -22,13 +22,13 @@ pub record Rests (code : Code) (contexts : Contexts) (m : Machine) : Type 0 wher
 
 -- an act came to its end in this state, or failed; nothing is said of how often the event changed its place
 abbrev pub Comes : {A : Type 0} → Outcome A → Result A Stop → State → Type 0
-Comes out (Ok a) st = plain out ≡ plain (Done a st)
-Comes out (Err e) st = Fails (plain out) e st.world
+Comes out (Ok a) st = uncounted_outcome out ≡ uncounted_outcome (Done a st)
+Comes out (Err e) st = Fails (uncounted_outcome out) e st.world
 
 -- into a child, and all is given up that lies outside
 abbrev pub went_down : Path → Span → Act (Unit {0})
 went_down q at = enter_at q at >> release q
 
 -- the root's statements, and then the phases and the reply
-abbrev pub performed : (ℕ → Path → List Value → Act (Option Value)) → ℕ → Event → Act (Option Value)
-performed call n e = effects call n [] (steps_in e.here) >> phases_run call n e.phases e.last []
+abbrev pub event_act : (ℕ → Path → List Value → Act (Option Value)) → ℕ → Event → Act (Option Value)
+event_act call n e = effects call n [] (steps_in e.here) >> phases_run call n e.phases e.last []

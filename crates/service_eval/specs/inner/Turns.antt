@@ -14,12 +14,12 @@ use Rattle.service_eval.specs.declared.stop.Stop.TheVariants as stop
 use Rattle.service_eval.specs.inner.Answers.{Looks}
 use Rattle.service_eval.specs.inner.Items.{Item}
 use Rattle.service_eval.specs.inner.Machines.{Mach, state_of, mach_of, on_top, before_all, in_state, rest_at, come_of, comes_to}
-use Rattle.resolved_service.specs.Meaning.{Act, Leave, Done, Left, value, effect, called}
+use Rattle.resolved_service.specs.Meaning.{Act, Leave, Done, Left, value, effect, call_act}
 use Rattle.resolved_service.specs.Steps.{Step}
 use Rattle.resolved_service.specs.View.{Tree}
 use Rattle.service_eval.specs.inner.Ready.{Ready, Follows, Turned}
 use Rattle.service_eval.specs.Worlds.{Holds}
-use Rattle.service_eval.specs.inner.Traces.{plain, Traps, Fails}
+use Rattle.service_eval.specs.inner.Traces.{uncounted_outcome, Traps, Fails}
 use Rattle.service_eval.specs.inner.Weight.{load}
 
 abbrev pub mach : Code → Contexts → Machine → Mach
@@ -29,13 +29,13 @@ mach code contexts m = mach_of (shown code.shape.now contexts) m
 abbrev pub Sees : View → Tree → Result (Option Operand) Stop → Type 0
 Sees view t result =
     let st = state_of (shown view.code.shape.now view.contexts.now) view.m.now in
-    Looks (value (called view.code.methods.now TICKS) view.m.now.path t st) st result
+    Looks (value (call_act view.code.methods.now TICKS) view.m.now.path t st) st result
 
 -- the expression has this value where it is looked at
 abbrev pub IsWorth : View → Tree → Value → Type 0
 IsWorth view t v =
     let st = state_of (shown view.code.shape.now view.contexts.now) view.m.now in
-    value (called view.code.methods.now TICKS) view.m.now.path t st ≡ Done v st
+    value (call_act view.code.methods.now TICKS) view.m.now.path t st ≡ Done v st
 
 -- the item is the next thing to be done
 abbrev pub IsNext : Code → Contexts → Machine → Item → Type 0
@@ -84,11 +84,11 @@ Does code contexts m act (Err e) contexts' m' = Traps (act (mach code contexts m
 
 -- a statement was done at once; or nothing was done
 abbrev pub AtOnce : Code → Contexts → Machine → Step → Result Bool Stop → Contexts → Machine → Type 0
-AtOnce code contexts m s (Ok true) contexts' m' = Does code contexts m (effect (called code.methods.now TICKS) TICKS m.path s) (Ok tt) contexts' m'
+AtOnce code contexts m s (Ok true) contexts' m' = Does code contexts m (effect (call_act code.methods.now TICKS) TICKS m.path s) (Ok tt) contexts' m'
 AtOnce code contexts m s (Ok false) contexts' m' = mach code contexts' m' ≡ mach code contexts m
-AtOnce code contexts m s (Err e) contexts' m' = Does code contexts m (effect (called code.methods.now TICKS) TICKS m.path s) (Err e) contexts' m'
+AtOnce code contexts m s (Err e) contexts' m' = Does code contexts m (effect (call_act code.methods.now TICKS) TICKS m.path s) (Err e) contexts' m'
 
 -- all was done: nothing is left to do
 abbrev pub Ran : Code → Mach → Result (Unit {0}) Stop → Mach → Type 0
-Ran code before (Ok _) after = (comes_to code.methods.now before ≡ plain (Done (rest_at after.path after.values) after.state)) × (after.items ≡ []) × Ready code.shape.now code.methods.now after
+Ran code before (Ok _) after = (comes_to code.methods.now before ≡ uncounted_outcome (Done (rest_at after.path after.values) after.state)) × (after.items ≡ []) × Ready code.shape.now code.methods.now after
 Ran code before (Err e) after = Fails (comes_to code.methods.now before) e after.state.world × Holds code.shape.now after.state.world.tree

@@ -7,7 +7,7 @@ use Rattle.wave_base.specs.Tables.{value_at}
 use Rattle.wave_base.specs.Values.{kind_of, TakesMemory}
 use Rattle.value_ops.specs.Operators.{gives_of}
 use Rattle.context_tree.specs.Contexts.{Contexts, tree_of as shown}
-use Rattle.resolved_service.specs.Meaning.{Outcome, Done, value, called}
+use Rattle.resolved_service.specs.Meaning.{Outcome, Done, value, call_act}
 use Rattle.resolved_service.specs.Steps.{Step, SetLocal, SetField, PutLocal, PutField, CutLocal, CutField}
 use Rattle.resolved_service.specs.View.{Tree, Op, And, Or, Trees, no_trees, tree}
 use Rattle.resolved_service.specs.World.{nothing}
@@ -48,7 +48,7 @@ IsLarge _ = ⊥
 -- the expression makes a text or a map, or has one for its value, which is copied
 abbrev pub MayWantToFind : Code → Contexts → Machine → Tree → Type 0
 MayWantToFind code contexts m t =
-    MayWant t ⊎ IsLarge (value (called code.methods.now TICKS) m.path t (state_of (shown code.shape.now contexts) m))
+    MayWant t ⊎ IsLarge (value (call_act code.methods.now TICKS) m.path t (state_of (shown code.shape.now contexts) m))
 
 -- a map has not this key
 abbrev pub IsNewKey : Value → Value → Type 0
@@ -75,7 +75,7 @@ abbrev pub MayWantToPut : Code → Contexts → Machine → Variable → Tree �
 MayWantToPut code contexts m v key new =
     MayWantToFind code contexts m key
     ⊎ MayWantToFind code contexts m new
-    ⊎ FindsNewKey (value_of code contexts m v) (value (called code.methods.now TICKS) m.path key (state_of (shown code.shape.now contexts) m))
+    ⊎ FindsNewKey (value_of code contexts m v) (value (call_act code.methods.now TICKS) m.path key (state_of (shown code.shape.now contexts) m))
 
 -- a statement that changes a variable, and meets no call
 abbrev pub MayWantAtOnce : Code → Contexts → Machine → Step → Type 0

@@ -27,9 +27,9 @@ takes_in (Row takes) = row_operands takes
 abbrev pub effect_in : Asks → Effect
 effect_in a = record { takes = takes_in a.takes; gives = a.gives }
 
-abbrev pub asked : Result Asks Rule → Judged Effect
-asked (Ok a) = Ok (effect_in a)
-asked (Err r) = Err r
+abbrev pub asked_effect : Result Asks Rule → Judged Effect
+asked_effect (Ok a) = Ok (effect_in a)
+asked_effect (Err r) = Err r
 
 -- what is there, or that it is not there
 abbrev pub Finds : {A : Type 0} → Option A → Rule → Result A Rule → Type 0

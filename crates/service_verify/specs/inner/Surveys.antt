@@ -19,8 +19,8 @@ abbrev pub mark_of : List (List Bool) → ℕ → ℕ → Option Bool
 mark_of marks class field = option_and_then (λ ks. slice_get ks field) (slice_get marks class)
 
 -- a class none of whose fields is marked
-abbrev pub blank : ClassInfo → List Bool
-blank c = replicate (length c.fields) false
+abbrev pub unmarked_fields : ClassInfo → List Bool
+unmarked_fields c = replicate (length c.fields) false
 
 -- afterwards the fields that were marked are marked, and these
 pub record IsMarked (before : List (List Bool)) (more : ℕ → ℕ → Bool) (after : List (List Bool)) : Type 0 where

@@ -5,7 +5,7 @@ use Rattle.wave_base.specs.declared.shot.Shot.{Shot}
 use Rattle.snapshot_text.specs.declared.error.Fault.{Fault}
 use Rattle.snapshot_text.specs.declared.error.ShotError.{ShotError}
 use Rattle.snapshot_text.specs.declared.error.ShotError.TheVariants as error
-use Rattle.snapshot_text.specs.Refusals.{refused}
+use Rattle.snapshot_text.specs.Refusals.{error_at}
 use Rattle.snapshot_text.specs.Shots.{IsShot, are_in_order, comes_next, paths_of}
 use Rattle.snapshot_text.specs.SnapshotTexts.{shots_text}
 use Rattle.snapshot_text.specs.Verdicts.{IsLineOf, IsFault, BeginsWithFault}
@@ -27,7 +27,7 @@ pub record IsOnlyFault (shape : Shape) (before : List Shot) (line : List ℕ) (f
 
 -- want of memory says nothing
 abbrev pub IsRefusal : Shape → List Shot → List ℕ → ℕ → ShotError → Type 0
-IsRefusal shape before line n e = (e ≡ error.OutOfMemory the_refusal) ⊎ ((f : Fault) × IsOnlyFault shape before line f × (e ≡ refused f n))
+IsRefusal shape before line n e = (e ≡ error.OutOfMemory the_refusal) ⊎ ((f : Fault) × IsOnlyFault shape before line f × (e ≡ error_at f n))
 
 -- ---- all lines
 
@@ -56,4 +56,4 @@ pub record StopsWith (shape : Shape) (tail : List ℕ) (before : List Shot) (f :
 -- all lines are those of shots, or one has a fault; want of memory says nothing
 abbrev pub AreRead : Shape → List ℕ → Result (List Shot) ShotError → Type 0
 AreRead shape tail (Ok shots) = IsOnlyParted shape tail shots []
-AreRead shape tail (Err e) = (e ≡ error.OutOfMemory the_refusal) ⊎ ((before : List Shot) × (f : Fault) × StopsWith shape tail before f × (e ≡ refused f (length before + 2)))
+AreRead shape tail (Err e) = (e ≡ error.OutOfMemory the_refusal) ⊎ ((before : List Shot) × (f : Fault) × StopsWith shape tail before f × (e ≡ error_at f (length before + 2)))

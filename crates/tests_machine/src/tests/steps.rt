@@ -19,7 +19,7 @@ use wave_base::{Finished, Host, OutOfMemory, Outcome, Ticket, Worker};
 use wave_effects::{Plan, run_lease};
 use wave_labels::{Act, Label};
 use wave_machine::{Machine, machine_stands};
-use wave_theory::listed;
+use wave_theory::lists_are_exact;
 
 // The first label that can be taken.
 fn first_of(machine: &Machine) -> Result<Option<Label>, OutOfMemory>
@@ -27,7 +27,7 @@ fn first_of(machine: &Machine) -> Result<Option<Label>, OutOfMemory>
 {
     machine_stands(machine);
     listed::<PlanActors>();
-    let labels = machine.enabled()?;
+    let labels = machine.enabled_labels()?;
     match labels.get(0) {
         Some(label) => Ok(Some(*label)),
         None => Ok(None),
@@ -97,7 +97,7 @@ fn take_first(
 
 // So many labels can be taken at once.
 fn many_enabled(rt: &impl Abort, machine: &Machine, count: usize) -> Result<(), OutOfMemory> {
-    assert_eq!(rt; machine.enabled()?.len(), count);
+    assert_eq!(rt; machine.enabled_labels()?.len(), count);
     Ok(())
 }
 
@@ -119,16 +119,16 @@ fn has_come_to(
     committed: usize,
     finished: bool,
 ) -> Result<(), OutOfMemory> {
-    assert_eq!(rt; machine.committed(), committed);
-    assert_eq!(rt; machine.shown(0, 64)?.len(), committed);
-    assert_eq!(rt; machine.finished(), finished);
+    assert_eq!(rt; machine.committed_count(), committed);
+    assert_eq!(rt; machine.shown_lines(0, 64)?.len(), committed);
+    assert_eq!(rt; machine.is_finished(), finished);
     Ok(())
 }
 
 // What a machine tells that is finished.
 fn told(rt: &impl Abort, machine: Machine) -> Result<Finished, OutOfMemory> {
     machine_stands(&machine);
-    if machine.finished() {
+    if machine.is_finished() {
         match machine.into_finished() {
             Ok(finished) => Ok(finished),
             Err((_, error)) => Err(error),

@@ -22,8 +22,8 @@ pub record HasRoom (g : Gathered) (more_classes more_methods : ℕ) : Type 0 whe
   pub methods : length g.methods.items + more_methods < 2 ^ 16
 
 -- so many more classes, methods and events
-abbrev pub grown : Known → List Entry → List Signature → List EventInfo → Known
-grown known classes methods events = record {
+abbrev pub known_with : Known → List Entry → List Signature → List EventInfo → Known
+known_with known classes methods events = record {
   version = known.version;
   shape = record { classes = known.shape.classes ++ map (λ c. c.info) classes; events = known.shape.events ++ events };
   above = known.above ++ map (λ c. c.above) classes;
@@ -32,4 +32,4 @@ grown known classes methods events = record {
 
 pub record Gains (old new : Gathered) (classes : List Entry) (methods : List Signature) (events : List EventInfo) : Type 0 where
   pub gathered : IsGathered new
-  pub known : known_in new ≡ grown (known_in old) classes methods events
+  pub known : known_in new ≡ known_with (known_in old) classes methods events

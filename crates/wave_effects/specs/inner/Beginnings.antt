@@ -32,5 +32,5 @@ abbrev pub kid_of : Path → Place → Option (Step × Child)
 kid_of p x = option_map (λ s. (s, record { given = 0; birth = x.host })) (child_step p x.path)
 
 -- of the contexts at these places, which were placed already
-abbrev pub placed : Begin Fields → List Place → Path → Column Fields
-placed b places p = if list_any (path_eq p) (map (λ x. x.path) places) then column_at_start b p else no_column
+abbrev pub placed_column : Begin Fields → List Place → Path → Column Fields
+placed_column b places p = if list_any (path_eq p) (map (λ x. x.path) places) then column_at_start b p else no_column

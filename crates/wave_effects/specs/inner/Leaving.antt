@@ -26,8 +26,8 @@ abbrev pub Hold : Type 0
 Hold = theory.Hold
 
 -- a child with the next number given, born at this host where it is new
-abbrev pub raised : Option Child → ℕ → Child
-raised o host = record { given = suc (child_or_new o host).given; birth = (child_or_new o host).birth }
+abbrev pub raised_child : Option Child → ℕ → Child
+raised_child o host = record { given = suc (child_or_new o host).given; birth = (child_or_new o host).birth }
 
 -- The mail by which an actor goes on from a context, and the record that stays there; none where it is over.
 module _ (host : ℕ) (p : Path) (r : theory.Record Fields) where
@@ -35,7 +35,7 @@ module _ (host : ℕ) (p : Path) (r : theory.Record Fields) where
   abbrev pub into : Step → Bool → Option Hold → Mail Fields × theory.Record Fields
   into s peek (Some x) = (record { host = x.host; path = p ++ s ∷ []; letter = Letter.Visit }, r)
   into s peek None =
-      let c : Child = raised (child_at r.children s) host in
+      let c : Child = raised_child (child_at r.children s) host in
       (record { host = c.birth.0; path = p ++ s ∷ []; letter = Enter (record { number = c.given; followed = 0; peek = peek }) }, record { fields = r.fields; children = with_child r.children s c })
 
   abbrev pub onward : List (Path × Hold) → Bool → Halt → Option (Mail Fields × theory.Record Fields)

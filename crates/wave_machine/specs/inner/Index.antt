@@ -23,7 +23,7 @@ use Rattle.wave_machine.specs.declared.ready.Ready.{Ready}
 use Rattle.wave_effects.specs.Ending.{is_done}
 use Rattle.wave_effects.specs.Keeping.{kept_of}
 use Rattle.wave_effects.specs.Machines.{Kept, Stands, TheState}
-use Rattle.wave_effects.specs.Apart.{Moves, grown}
+use Rattle.wave_effects.specs.Apart.{Moves, new_cells}
 use Rattle.wave_effects.specs.Sized.{IsNumbered}
 use Rattle.wave_machine.specs.inner.Asking.{admit_labels, commit_labels, in_order, label_at, mail_labels, mails_labels, status_labels}
 use Rattle.wave_machine.specs.inner.Done.{AreDone}
@@ -319,7 +319,7 @@ pub record Taken (m m' : Kept) (l : Label) (seen : Seen) (more : ℕ) : Type 0 w
   pub moves : Moves m m' l more
   pub mails : KeepsMails m m' l
   pub numbered : (i : ℕ) (c : Cell Actor) → slice_get m.cells i ≡ Some c → IsNumbered c.outbox
-  pub grows : grown l.act ≡ 1 → ticket_of l.act ≡ m.first + length m.cells
+  pub grows : new_cells l.act ≡ 1 → ticket_of l.act ≡ m.first + length m.cells
   pub sees : Sees m l.host (ticket_of l.act) (path_of l.act) seen
 
 -- and the list is still that of what was kept before

@@ -2,7 +2,7 @@ use Rattle.std.proofs.Common.{rules, ◌≡◌, ◌∙◌, ap, ap₂, codes, tru
 use Rattle.clap.specs.Words.{Rule, app_of, new_app, new_rule, rule_of, with_rule}
 use Rattle.clap.specs.Simple.{app_of_fields, on_top}
 use Rattle.clap.specs.declared.builder.arg.Arg.{Arg}
-use Rattle.command_words.specs.Reading.{bare, command_line, name_rule, number_rule, workers_rule, schedule_rule, map_rule}
+use Rattle.command_words.specs.Reading.{bare_shape, command_line, name_rule, number_rule, workers_rule, schedule_rule, map_rule}
 use Rattle.command_words.proofs.ReadingLemmas.{bare_app}
 use Rattle.command_words.proofs.reading.command_line.Goals as goal
 
@@ -14,7 +14,7 @@ returns c =
     let workers_is : rule_of c.long-workers.result ≡ workers_rule = search rules in
     let schedule_is : rule_of c.long-schedule.result ≡ schedule_rule = search rules in
     let map_is : rule_of c.action-map.result ≡ map_rule = search rules in
-    let bare_is : app_of c.disable_version_flag.result ≡ on_top bare (new_app (codes "eventwave")) =
+    let bare_is : app_of c.disable_version_flag.result ≡ on_top bare_shape (new_app (codes "eventwave")) =
     bare_app (app_of c.new-5.result) (app_of c.no_binary_name.result) (app_of c.disable_help_flag.result) (app_of c.disable_version_flag.result)
     c.new-5.ensures.app (ap app_of_fields c.no_binary_name.ensures) (ap app_of_fields c.disable_help_flag.ensures) (ap app_of_fields c.disable_version_flag.ensures) in
     let global : Arg → Bool = λ (a : Arg). a.global in

@@ -10,7 +10,7 @@ use Rattle.due_parts.proofs.script.accept_script.Goals as goal
 
 pub returns-then-text-gt-SCRIPT_BYTES-clause-due : goal.returns-then-text-gt-SCRIPT_BYTES-clause-due
 returns-then-text-gt-SCRIPT_BYTES-clause-due c = λ tree t coded telling.
-    subst (Only (IsDueScript (IsDueFirst telling) c.args.text.now tree)) (sym c.in_ok-refused.ensures) (only_long (IsDueLines (IsDueFirst telling tree) (shape_of tree) nothing_earlier) c.args.text.now (omega arith))
+    subst (Only (IsDueScript (IsDueFirst telling) c.args.text.now tree)) (sym c.in_ok-refusal_answer.ensures) (only_long (IsDueLines (IsDueFirst telling tree) (shape_of tree) nothing_earlier) c.args.text.now (omega arith))
 
 pub returns-clause-due : goal.returns-clause-due
 returns-clause-due c = λ tree t coded.

@@ -15,7 +15,7 @@ use Rattle.due_points.proofs.resumed.accept_from.Goals as goal
 pub returns-then-text-gt-SCRIPT_BYTES : goal.returns-then-text-gt-SCRIPT_BYTES
 returns-then-text-gt-SCRIPT_BYTES c = λ tree t coded telling.
     let point = c.args.point in
-    subst (Only (IsDueFrom telling tree c.args.text.now point)) (sym c.in_ok-refused.ensures)
+    subst (Only (IsDueFrom telling tree c.args.text.now point)) (sym c.in_ok-refusal_answer.ensures)
     (only_long (IsDueLines (IsDueTold telling tree point.start) (shape_of tree) (script_earlier point.hosts point.lines)) c.args.text.now (omega arith))
 
 pub returns-in-Ok : goal.returns-in-Ok

@@ -1,7 +1,7 @@
 use Rattle.std.proofs.Common.{◌≡◌, ◌≤◌, ◌∙◌, Err, IfOk, Ok, ap, arith, length, subst}
 use Rattle.service_code.specs.declared.program.Program.{Program}
 use Rattle.wave_effects.specs.Plans.{plan_of}
-use Rattle.due_parts.specs.Answers.{written}
+use Rattle.due_parts.specs.Answers.{text_answer}
 use Rattle.journal_replay.specs.declared.error.ReplayError.TheVariants.{Refused}
 use Rattle.journal_replay.specs.Replays.{IsOnlyOutcome}
 use Rattle.journal_replay.specs.Reports.{replayed_text}
@@ -15,8 +15,8 @@ returns-in_ok-replayed_text-in-Ok c =
     let journal = c.args.journal.now in
     let replayed = c.in-Ok.replayed in
     let few : length journal ≤ c.from.result = omega (arith, c.requires.few, c.from.ensures) in
-    only_told plan journal c.args.show c.from.result few (Ok replayed) c.written.result (subst (λ n. IsOnlyOutcome plan journal n (Ok replayed)) c.min.ensures c.in-Ok.ensures)
-    (c.written.ensures ∙ ap written (c.in_ok-replayed_text-in-Ok.ensures ∙ ap (λ (p : Program). replayed_text p.shape replayed) c.program.ensures.program))
+    only_told plan journal c.args.show c.from.result few (Ok replayed) c.text_answer.result (subst (λ n. IsOnlyOutcome plan journal n (Ok replayed)) c.min.ensures c.in-Ok.ensures)
+    (c.text_answer.ensures ∙ ap text_answer (c.in_ok-replayed_text-in-Ok.ensures ∙ ap (λ (p : Program). replayed_text p.shape replayed) c.program.ensures.program))
 
 pub returns-in-Err-Refused : goal.returns-in-Err-Refused
 returns-in-Err-Refused c =

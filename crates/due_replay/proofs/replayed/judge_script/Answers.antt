@@ -15,7 +15,7 @@ pub returns-then-script-gt-SCRIPT_BYTES : goal.returns-then-script-gt-SCRIPT_BYT
 returns-then-script-gt-SCRIPT_BYTES c = λ tree t coded.
     let text = c.args.script.now in
     let P = λ (s : Script). IsDueJournal (IsDueReplay c.args.asked.show c.args.asked.crew tree s) (shape_of tree) c.args.journal.now in
-    subst (Only (IsDueShort (IsDueLines P (shape_of tree) nothing_earlier) text)) (sym c.in_ok-refused.ensures) (only_long (IsDueLines P (shape_of tree) nothing_earlier) text (omega arith))
+    subst (Only (IsDueShort (IsDueLines P (shape_of tree) nothing_earlier) text)) (sym c.in_ok-refusal_answer.ensures) (only_long (IsDueLines P (shape_of tree) nothing_earlier) text (omega arith))
 
 pub returns-in-Ok : goal.returns-in-Ok
 returns-in-Ok c = λ tree t coded.

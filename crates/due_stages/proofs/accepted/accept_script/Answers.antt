@@ -10,7 +10,7 @@ use Rattle.due_stages.proofs.accepted.accept_script.Goals as goal
 
 pub returns-then-text-gt-SCRIPT_BYTES : goal.returns-then-text-gt-SCRIPT_BYTES
 returns-then-text-gt-SCRIPT_BYTES c = λ tree t coded places.
-    subst (Only (IsDueElasticScript places c.args.text.now tree)) (sym c.in_ok-refused.ensures) (only_long (IsDueElasticLines (IsDueExpansion places tree) (shape_of tree)) c.args.text.now (omega arith))
+    subst (Only (IsDueElasticScript places c.args.text.now tree)) (sym c.in_ok-refusal_answer.ensures) (only_long (IsDueElasticLines (IsDueExpansion places tree) (shape_of tree)) c.args.text.now (omega arith))
 
 pub returns : goal.returns
 returns c = λ tree t coded.

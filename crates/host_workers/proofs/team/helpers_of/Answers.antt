@@ -13,8 +13,8 @@ split-pass-requires-clause-pass g c = c.loop-number.invariant.of_lock
 pub split-pass-requires-clause-first : goal.split-pass-requires-clause-first
 split-pass-requires-clause-first g c = c.loop-number.invariant.ready.number
 
-pub seated-requires : goal.seated-requires
-seated-requires g c =
+pub helper_of-requires : goal.helper_of-requires
+helper_of-requires g c =
     let workers = ap (λ (p : Plan). p.workers) c.requires.plan in
     record {
       of_lock = c.split-pass.ensures.new;

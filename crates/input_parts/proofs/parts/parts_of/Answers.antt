@@ -1,7 +1,7 @@
 use Rattle.std.proofs.Common.{◌≡◌, ◌<◌, [], None, length, refl, sym, ◌∙◌, subst, ap, arith}
 use Rattle.std.proofs.lemmas.List.{nil_from_length}
 use Rattle.std.proofs.lemmas.Bool.Decides.{nat_tests}
-use Rattle.input_parts.specs.Parts.{parted, joined}
+use Rattle.input_parts.specs.Parts.{line_parts, text_behind}
 use Rattle.wave_text.specs.Lines.{cut_lines}
 use Rattle.input_parts.proofs.PartLemmas.{Passed, is_first, passed_more, service_found, script_found, none_found}
 use Rattle.input_parts.proofs.parts.parts_of.Goals as goal
@@ -27,10 +27,10 @@ loop-rest-preserved c =
 pub returns-clause-service : goal.returns-clause-service
 returns-clause-service c =
     let ends : c.loop-rest.rest.now ≡ [] = nil_from_length c.loop-rest.rest.now (grind (arith, nat_tests)) in
-    let none : parted (cut_lines c.args.input.now) ≡ None = none_found c.args.input.now (subst (Passed c.args.input.now) ends c.loop-rest.invariant) in
+    let none : line_parts (cut_lines c.args.input.now) ≡ None = none_found c.args.input.now (subst (Passed c.args.input.now) ends c.loop-rest.invariant) in
     rw none refl
 
 pub returns-clause-none : goal.returns-clause-none
 returns-clause-none c =
     let ends : c.loop-rest.rest.now ≡ [] = nil_from_length c.loop-rest.rest.now (grind (arith, nat_tests)) in
-    ap joined (none_found c.args.input.now (subst (Passed c.args.input.now) ends c.loop-rest.invariant))
+    ap text_behind (none_found c.args.input.now (subst (Passed c.args.input.now) ends c.loop-rest.invariant))

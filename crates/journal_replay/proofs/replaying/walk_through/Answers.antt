@@ -21,9 +21,9 @@ returns-clause-only c =
     let shown = c.min-shown.result in
     let seen : IsWalking p (take shown journal) c.go.new.walk = c.in_ok-go.ensures.walking in
     let done : IsWalking p (take count journal) c.go-2.new.walk = c.in_ok-go-2.ensures.walking in
-    let r : Replayed = record { steps = count; finished = c.finished.result; shown = shown; glance = c.in_ok-glance.glance } in
+    let r : Replayed = record { steps = count; finished = c.is_finished.result; shown = shown; glance = c.in_ok-glance.glance } in
     let whole : LeadsTo p journal done.state = subst (λ ls. LeadsTo p ls done.state) (take-length journal) done.run in
-    let ended = subst (λ (q : Plan). IsTrue c.finished.result ↔ Finished (plan_actors q.program) q.workers done.state) done.same (c.finished.ensures start done.state done.under.stands) in
+    let ended = subst (λ (q : Plan). IsTrue c.is_finished.result ↔ Finished (plan_actors q.program) q.workers done.state) done.same (c.is_finished.ensures start done.state done.under.stands) in
     let h : IsReplay p journal c.args.show r = record {
       steps = refl;
       last = done.state;

@@ -2,14 +2,14 @@ use Rattle.std.proofs.Common.{◌≡◌, Option, None, Some}
 use Rattle.wave_labels.specs.declared.label.Act.{Act}
 use Rattle.wave_labels.specs.declared.label.Act.TheVariants.{Pass}
 use Rattle.journal_text.specs.Fits.{HasPath, HasNumbers}
-use Rattle.journal_text.specs.LabelTexts.{spaced}
+use Rattle.journal_text.specs.LabelTexts.{words_text}
 use Rattle.journal_text.specs.inner.Verbs.{operands}
 use Rattle.journal_text.proofs.PassLemmas.{only_pass, pass_words, pass_found}
 use Rattle.journal_text.proofs.operands.pass_in.Goals as goal
 
 pub returns-in_default-clause-only : goal.returns-in_default-clause-only
 returns-in_default-clause-only c a v =
-    only_pass a (λ (b : Act). HasPath c.args.classes.now b → HasNumbers b → c.args.text.now ≡ spaced (operands c.args.classes.now b) → ◌≡◌ {A = Option Act} None (Some b)) v
+    only_pass a (λ (b : Act). HasPath c.args.classes.now b → HasNumbers b → c.args.text.now ≡ words_text (operands c.args.classes.now b) → ◌≡◌ {A = Option Act} None (Some b)) v
     (λ m p g hp h e.
     let words = pass_words c.args.classes.now c.requires.names c.args.text.now c.word_of.result.0.now c.word_of.result.1.now c.word_of-2.result.0.now c.word_of-2.result.1.now c.word_of-3.result.0.now c.word_of-3.result.1.now
     c.word_of.ensures c.word_of-2.ensures c.word_of-3.ensures m p g hp h.0 h.1 e in
@@ -18,7 +18,7 @@ returns-in_default-clause-only c a v =
 
 pub returns-in_default-byte_of-clause-only : goal.returns-in_default-byte_of-clause-only
 returns-in_default-byte_of-clause-only c a v =
-    only_pass a (λ (b : Act). HasPath c.args.classes.now b → HasNumbers b → c.args.text.now ≡ spaced (operands c.args.classes.now b) → ◌≡◌ {A = Option Act} None (Some b)) v
+    only_pass a (λ (b : Act). HasPath c.args.classes.now b → HasNumbers b → c.args.text.now ≡ words_text (operands c.args.classes.now b) → ◌≡◌ {A = Option Act} None (Some b)) v
     (λ m p g hp h e.
     let words = pass_words c.args.classes.now c.requires.names c.args.text.now c.word_of.result.0.now c.word_of.result.1.now c.word_of-2.result.0.now c.word_of-2.result.1.now c.word_of-3.result.0.now c.word_of-3.result.1.now
     c.word_of.ensures c.word_of-2.ensures c.word_of-3.ensures m p g hp h.0 h.1 e in
@@ -27,7 +27,7 @@ returns-in_default-byte_of-clause-only c a v =
 
 pub returns-in-None-clause-only : goal.returns-in-None-clause-only
 returns-in-None-clause-only c a v =
-    only_pass a (λ (b : Act). HasPath c.args.classes.now b → HasNumbers b → c.args.text.now ≡ spaced (operands c.args.classes.now b) → ◌≡◌ {A = Option Act} None (Some b)) v
+    only_pass a (λ (b : Act). HasPath c.args.classes.now b → HasNumbers b → c.args.text.now ≡ words_text (operands c.args.classes.now b) → ◌≡◌ {A = Option Act} None (Some b)) v
     (λ m p g hp h e.
     let words = pass_words c.args.classes.now c.requires.names c.args.text.now c.word_of.result.0.now c.word_of.result.1.now c.word_of-2.result.0.now c.word_of-2.result.1.now c.word_of-3.result.0.now c.word_of-3.result.1.now
     c.word_of.ensures c.word_of-2.ensures c.word_of-3.ensures m p g hp h.0 h.1 e in
@@ -36,7 +36,7 @@ returns-in-None-clause-only c a v =
 
 pub returns-in-Some-2-clause-only : goal.returns-in-Some-2-clause-only
 returns-in-Some-2-clause-only c a v =
-    only_pass a (λ (b : Act). HasPath c.args.classes.now b → HasNumbers b → c.args.text.now ≡ spaced (operands c.args.classes.now b) → ◌≡◌ {A = Option Act} (Some (Pass c.in-Some.mail c.in-Some-2.path (record { 0 = c.in-Some-byte_of.host }))) (Some b)) v
+    only_pass a (λ (b : Act). HasPath c.args.classes.now b → HasNumbers b → c.args.text.now ≡ words_text (operands c.args.classes.now b) → ◌≡◌ {A = Option Act} (Some (Pass c.in-Some.mail c.in-Some-2.path (record { 0 = c.in-Some-byte_of.host }))) (Some b)) v
     (λ m p g hp h e.
     let words = pass_words c.args.classes.now c.requires.names c.args.text.now c.word_of.result.0.now c.word_of.result.1.now c.word_of-2.result.0.now c.word_of-2.result.1.now c.word_of-3.result.0.now c.word_of-3.result.1.now
     c.word_of.ensures c.word_of-2.ensures c.word_of-3.ensures m p g hp h.0 h.1 e in

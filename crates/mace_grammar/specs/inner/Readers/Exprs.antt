@@ -14,7 +14,7 @@ use Rattle.mace_grammar.specs.declared.class.Class.{Class}
 use Rattle.mace_grammar.specs.inner.Classes as classes
 use Rattle.mace_grammar.specs.Words.{Edition, literal_word, or_op, and_op, comparison_op, sum_op, product_op, op_word, unary_word}
 use Rattle.mace_grammar.specs.Grammar.{joined}
-use Rattle.mace_grammar.specs.inner.Run.{Reader, ◌>>=◌, ◌>>◌, give, word, choice, each, deeper}
+use Rattle.mace_grammar.specs.inner.Run.{Reader, ◌>>=◌, ◌>>◌, give, word, choice, each, nested_reader}
 use Rattle.mace_grammar.specs.inner.Readers.Tokens.{sign_at, if_sign, name_at, field_at, separated_at}
 
 abbrev pub literal_at : Reader ExprTree
@@ -129,7 +129,7 @@ module _ (edition : Edition) where
     signed_or_primary_at = choice kind UNARY_OPS signed_at primary_at
 
   abbrev pub unary_at : ℕ → Reader ExprTree
-  unary_at = deeper (λ _. signed_or_primary_at)
+  unary_at = nested_reader (λ _. signed_or_primary_at)
 
   module _ (n : ℕ) where
     unfoldable pub any_expr_at : Reader ExprTree

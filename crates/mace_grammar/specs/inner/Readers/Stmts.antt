@@ -15,7 +15,7 @@ use Rattle.mace_grammar.specs.declared.class.Class.TheVariants as class
 use Rattle.mace_grammar.specs.inner.Classes as classes
 use Rattle.mace_grammar.specs.Words.{Edition}
 use Rattle.mace_grammar.specs.Grammar.{target}
-use Rattle.mace_grammar.specs.inner.Run.{Reader, ◌>>=◌, ◌>>◌, give, choice, each_of, some, deeper}
+use Rattle.mace_grammar.specs.inner.Run.{Reader, ◌>>=◌, ◌>>◌, give, choice, each_of, some, nested_reader}
 use Rattle.mace_grammar.specs.inner.Readers.Tokens.{key_at, sign_at, text_at, if_sign, if_key, name_at, leave_at, finish_at, field_at}
 use Rattle.mace_grammar.specs.inner.Readers.Exprs.{any_expr_at, any_arguments_at, any_key_at}
 
@@ -179,7 +179,7 @@ module _ (edition : Edition) where
       any_stmt_at = choice kind (if_key k.Let) let_at (choice kind (if_key k.If) if_at (choice kind (if_key k.While) while_at (choice kind (if_key k.For) for_at ending_at)))
 
   abbrev pub stmt_at : ℕ → Reader StmtTree
-  stmt_at = deeper any_stmt_at
+  stmt_at = nested_reader any_stmt_at
 
   unfoldable pub stmts_at : ℕ → Reader (List StmtTree)
   stmts_at n = stmts_in (stmt_at n)

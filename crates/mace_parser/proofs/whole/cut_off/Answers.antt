@@ -8,8 +8,8 @@ use Rattle.mace_parser.proofs.Judged.{stopped_tells, read_tells}
 use Rattle.mace_parser.proofs.whole.cut_off.Goals as goal
 use Rattle.mace_parser.proofs.whole.cut_off.Goals.{in-Ok, in-Err-Stuck, in-Err-Memory}
 
-pub stopped-requires-clause-left : goal.stopped-requires-clause-left
-stopped-requires-clause-left c =
+pub stop_error-requires-clause-left : goal.stop_error-requires-clause-left
+stop_error-requires-clause-left c =
     let front = take (c.args.deep + 1) c.args.tokens.now in
     let k = subst (λ f. TakesAll service_tree (Err f) (judge front front)) c.in-Err-Stuck.field-0-is c.in-Err-Stuck.ensures in
     let h = judge_shorter front c.in-Err-Stuck.rest.now k.0 in

@@ -19,5 +19,5 @@ returns-in-Ok-clause-spelled c = judge_spelled c.args.tokens.now (service_tree c
 pub returns-in-Err-Stuck-clause-error : goal.returns-in-Err-Stuck-clause-error
 returns-in-Err-Stuck-clause-error c =
     let k = subst (λ f. TakesAll service_tree (Err f) (judge c.args.tokens.now c.args.tokens.now)) c.in-Err-Stuck.field-0-is c.in-Err-Stuck.ensures in
-    subst (λ e. TellsFault c.args.text.now c.args.tokens.now e) (sym c.expected.ensures)
+    subst (λ e. TellsFault c.args.text.now c.args.tokens.now e) (sym c.expected_error.ensures)
     (judge_expected c.args.tokens.now c.in-Err-Stuck.rest.now k.0 k.1 c.requires.nest, refl)

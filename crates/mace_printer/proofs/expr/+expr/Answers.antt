@@ -1,7 +1,7 @@
 use Rattle.std.proofs.Common.{◌+◌, ap, map, sym, ◌∙◌, nat_lt}
 use Rattle.mace_ast.specs.Exprs as e
 use Rattle.mace_ast.specs.Exprs.{expr_tree, node_tree, exprs_of}
-use Rattle.mace_grammar.specs.Levels.{wanted}
+use Rattle.mace_grammar.specs.Levels.{wanted_looser}
 use Rattle.mace_printer.specs.Canon.{sign, expr_words, whole_words}
 use Rattle.mace_printer.proofs.Wrote.{next, same_next, same_words, nothing, listed_turn}
 use Rattle.mace_printer.proofs.Arms.{call_node, child_call_node, binary_node, call_arm, child_arm, binary_arm}
@@ -43,7 +43,7 @@ put_expr-returns-in-Call t c =
     let f = c.in-Call.name in
     let ts = map expr_tree c.deref-in-Call.result.now in
     let node = ap (λ n. node_tree n at) c.in-Call.is ∙ call_node f c.in-Call.args at ∙ ap (λ l. e.Call at f (exprs_of (map expr_tree l))) (sym c.deref-in-Call.ensures.value) in
-    same_next _ _ _ (call_arm at f ts (wanted c.args.level) ∙ ap (λ x. expr_words x (wanted c.args.level)) (sym node)) c.put_call.ensures
+    same_next _ _ _ (call_arm at f ts (wanted_looser c.args.level) ∙ ap (λ x. expr_words x (wanted_looser c.args.level)) (sym node)) c.put_call.ensures
 
 pub put_expr-returns-in_ok-put_child_key-in-ChildCall : goal.put_expr-returns-in_ok-put_child_key-in-ChildCall
 put_expr-returns-in_ok-put_child_key-in-ChildCall t c =
@@ -55,7 +55,7 @@ put_expr-returns-in_ok-put_child_key-in-ChildCall t c =
     let node = ap (λ n. node_tree n at) c.in-ChildCall.is ∙ child_call_node d c.in-ChildCall.key f c.in-ChildCall.args at
     ∙ ap (λ x. e.ChildCall at d (expr_tree x) f (exprs_of (map expr_tree c.in-ChildCall.args.items))) (sym c.deref-in-ChildCall.ensures)
     ∙ ap (λ l. e.ChildCall at d p f (exprs_of (map expr_tree l))) (sym c.deref-in-ChildCall-2.ensures.value) in
-    same_next _ _ _ (child_arm at d p f ts (wanted c.args.level) ∙ ap (λ x. expr_words x (wanted c.args.level)) (sym node)) (next _ _ _ _ _ c.in_ok-put_child_key-in-ChildCall.ensures c.put_call-in-ChildCall.ensures)
+    same_next _ _ _ (child_arm at d p f ts (wanted_looser c.args.level) ∙ ap (λ x. expr_words x (wanted_looser c.args.level)) (sym node)) (next _ _ _ _ _ c.in_ok-put_child_key-in-ChildCall.ensures c.put_call-in-ChildCall.ensures)
 
 pub put_expr-returns-in_ok-put_left-in-Binary : goal.put_expr-returns-in_ok-put_left-in-Binary
 put_expr-returns-in_ok-put_left-in-Binary t c =
@@ -66,4 +66,4 @@ put_expr-returns-in_ok-put_left-in-Binary t c =
     let node = ap (λ n. node_tree n at) c.in-Binary.is ∙ binary_node o c.in-Binary.left c.in-Binary.right at
     ∙ ap (λ x. e.Binary at o (expr_tree x) (expr_tree c.in-Binary.right.value)) (sym c.deref-in-Binary.ensures)
     ∙ ap (λ x. e.Binary at o a (expr_tree x)) (sym c.deref-in-Binary-2.ensures) in
-    same_next _ _ _ (binary_arm at o a b (wanted c.args.level) _ (ap (λ x. nat_lt x (wanted c.args.level)) (sym c.level_of.ensures) ∙ sym c.is_looser-paren.ensures) ∙ ap (λ x. expr_words x (wanted c.args.level)) (sym node)) (next _ _ _ _ _ c.in_ok-put_left-in-Binary.ensures c.put_right.ensures)
+    same_next _ _ _ (binary_arm at o a b (wanted_looser c.args.level) _ (ap (λ x. nat_lt x (wanted_looser c.args.level)) (sym c.level_of.ensures) ∙ sym c.is_looser-paren.ensures) ∙ ap (λ x. expr_words x (wanted_looser c.args.level)) (sym node)) (next _ _ _ _ _ c.in_ok-put_left-in-Binary.ensures c.put_right.ensures)

@@ -1,6 +1,6 @@
 use Rattle.std.proofs.Common.{◌≡◌, ◌+◌, ◌*◌, ◌++◌, map, take}
 use Rattle.mace_ast.specs.Exprs.{expr_tree}
-use Rattle.mace_printer.specs.Canon.{listed, whole_words}
+use Rattle.mace_printer.specs.Canon.{listed_words, whole_words}
 use Rattle.mace_printer.specs.Layout.{layout}
 use Rattle.mace_printer.proofs.expr.+expr.Given as goal
 
@@ -35,4 +35,4 @@ abbrev pub decreases-put_args : goal.decreases-put_args
 decreases-put_args l = 4 * goal.size-put_args l + 1
 
 abbrev pub invariant-put_args-loop-i : goal.invariant-put_args-loop-i
-invariant-put_args-loop-i l = l.out.items ≡ l.fn.out.items ++ layout (listed whole_words (map expr_tree (take l.i l.args)))
+invariant-put_args-loop-i l = l.out.items ≡ l.fn.out.items ++ layout (listed_words whole_words (map expr_tree (take l.i l.args)))

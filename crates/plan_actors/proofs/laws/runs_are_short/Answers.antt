@@ -4,7 +4,7 @@ use Rattle.wave_base.specs.declared.script.Line.{Line}
 use Rattle.wave_base.specs.Fold.{Progress, next_job}
 use Rattle.script_fold.specs.Lines.{most_jobs}
 use Rattle.wave_states.specs.Work.{WorkNumbers}
-use Rattle.wave_theory.specs.Counted.{size, passed, most_moves}
+use Rattle.wave_theory.specs.Counted.{size, pass_count, most_moves}
 use Rattle.code_actor.specs.CodeActors.{Fields}
 use Rattle.plan_actors.specs.Plans.{Setting, begin_in}
 use Rattle.plan_actors.proofs.Efforts.{work_same, work_over, whole_is}
@@ -28,4 +28,4 @@ returns-clause-finished c = λ plan start fits begins labels s run finished.
     (c.results.ensures k plan.workers (begin_in plan start) plan.script.batches (begin_fits plan fits start begins) (plan_fits plan fits) labels s run)
     (c.loads.ensures k plan.workers (begin_in plan start) plan.script.batches (begin_fits plan fits start begins) (plan_fits plan fits) labels s run finished) in
     (c.bounded.ensures k plan.workers (begin_in plan start) plan.script.batches (begin_fits plan fits start begins) (plan_fits plan fits) labels s run).exactly finished
-    ∙ ap (λ (x : WorkNumbers). size x + passed labels) (work_same plan fits start begins s.head.done ∙ work_over plan fits start begins s.head.done (ap (λ (w : Progress Fields EventResult Line). next_job w.head) (sym (folds_meet plan fits start begins s.head.done)) ∙ none))
+    ∙ ap (λ (x : WorkNumbers). size x + pass_count labels) (work_same plan fits start begins s.head.done ∙ work_over plan fits start begins s.head.done (ap (λ (w : Progress Fields EventResult Line). next_job w.head) (sym (folds_meet plan fits start begins s.head.done)) ∙ none))

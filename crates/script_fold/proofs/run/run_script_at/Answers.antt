@@ -17,7 +17,7 @@ pub returns-clause-over : goal.returns-clause-over
 returns-clause-over g c =
     let m = g.R.Runner.meaning c.args.runner.now in
     let sh = g.R.Runner.shape c.args.runner.now in
-    always c.finished.result _ (subst (λ (x : Start × Script). IsTrue (is_over (whole_run m sh x.0 x.1))) (λ i. (c.in_ok-live.ensures.start i, c.in_ok-copy.ensures i)) c.in_ok-live-2.ensures.over)
+    always c.finished_run.result _ (subst (λ (x : Start × Script). IsTrue (is_over (whole_run m sh x.0 x.1))) (λ i. (c.in_ok-live.ensures.start i, c.in_ok-copy.ensures i)) c.in_ok-live-2.ensures.over)
 
 pub returns-clause-places : goal.returns-clause-places
 returns-clause-places g c =
@@ -28,5 +28,5 @@ returns-clause-places g c =
     let all = run_places sh m (g.R.Runner.fits_tree r) (g.R.Runner.fits_call r) (g.met.R.Runner.owed r c.requires.sound) c.args.start.now c.args.script.now c.requires.script c.requires.start in
     let told = subst (λ (f : Finished). map (λ x. x.path) f.places ≡ map (λ s. s.path) f.shots) (sym same) all in
     let left = subst (λ (s : Start). map (λ x. x.path) s.places ≡ map (λ s. s.path) s.shots) (sym c.in_ok-live-2.ensures.start) told in
-    IfOk-weaker c.finished.result _ (λ (f : Finished). map (λ x. x.path) f.places ≡ map (λ s. s.path) f.shots)
-    (λ f e. subst (λ (f : Finished). map (λ x. x.path) f.places ≡ map (λ s. s.path) f.shots) (sym e) left) c.finished.ensures
+    IfOk-weaker c.finished_run.result _ (λ (f : Finished). map (λ x. x.path) f.places ≡ map (λ s. s.path) f.shots)
+    (λ f e. subst (λ (f : Finished). map (λ x. x.path) f.places ≡ map (λ s. s.path) f.shots) (sym e) left) c.finished_run.ensures

@@ -23,7 +23,7 @@ expr_height-returns-in-Call t c =
     let args : trees_height m (trees_of (map tree_of c.deref-in-Call.result.now)) ≡ trees_height m ts = ap (λ es. trees_height m (trees_of (map tree_of es))) c.deref-in-Call.ensures.value in
     let node = ap (λ n. node_tree n e.at) c.in-Call.is ∙ call_node c.in-Call.field-0 c.in-Call.args e.at in
     let whole : tree_height m (tree_of e) ≡ max (trees_height m ts) (one_if (leaves_value m (tree_of e))) = ap (tree_height m) node ∙ ap (λ t. max (trees_height m ts) (one_if (leaves_value m t))) (sym node) in
-    omega (arith, c.max-in-Call.ensures, c.exprs_height-in-Call.ensures, args, c.left.ensures ∙ ap one_if c.leaves.ensures, whole)
+    omega (arith, c.max-in-Call.ensures, c.exprs_height-in-Call.ensures, args, c.height_left.ensures ∙ ap one_if c.leaves.ensures, whole)
 
 pub expr_height-returns-in-Child : goal.expr_height-returns-in-Child
 expr_height-returns-in-Child t c =
@@ -35,7 +35,7 @@ expr_height-returns-in-Child t c =
     let node = ap (λ n. node_tree n e.at) c.in-Child.is ∙ child_node c.in-Child.field-0 c.in-Child.field-1 c.in-Child.key c.in-Child.args e.at in
     let whole : tree_height m (tree_of e) ≡ max (tree_height m (tree_of c.in-Child.key.value)) (max (suc (trees_height m ts)) (one_if (leaves_value m (tree_of e)))) =
     ap (tree_height m) node ∙ ap (λ t. max (tree_height m (tree_of c.in-Child.key.value)) (max (suc (trees_height m ts)) (one_if (leaves_value m t)))) (sym node) in
-    omega (arith, c.max-in-Child-2.ensures, c.max-in-Child.ensures, c.saturating_add-given.ensures, c.exprs_height-in-Child.ensures, c.expr_height.ensures, args, key, c.left-in-Child.ensures ∙ ap one_if c.leaves-in-Child.ensures, whole)
+    omega (arith, c.max-in-Child-2.ensures, c.max-in-Child.ensures, c.saturating_add-given.ensures, c.exprs_height-in-Child.ensures, c.expr_height.ensures, args, key, c.height_left-in-Child.ensures ∙ ap one_if c.leaves-in-Child.ensures, whole)
 
 pub exprs_height-exprs-preserved : goal.exprs_height-exprs-preserved
 exprs_height-exprs-preserved t c =

@@ -21,9 +21,9 @@ returns-in-None-clause-ok c =
     let s = step_of c.args.first.now in
     let last = c.in-None.ensures.none refl in
     let same = rw c.if-done.false at c.in-Ok.ensures.does in
-    subst (λ ss. IfOk c.chosen.result (AdvancesBy code c.args.contexts.now c.args.m.now (step s (steps_in ss)) c.at_once.new.contexts c.at_once.new.m)) (sym last)
+    subst (λ ss. IfOk c.chosen_block.result (AdvancesBy code c.args.contexts.now c.args.m.now (step s (steps_in ss)) c.at_once.new.contexts c.at_once.new.m)) (sym last)
     (chose code c.args.contexts.now c.at_once.new.contexts c.args.m.now c.at_once.new.m s same c.requires.ready
-    (subst (λ ss. FitsSteps code.shape.now code.methods.now (class_of c.args.m.now.path) (step s (steps_in ss))) last c.requires.fits) c.chosen.result c.chosen.ensures)
+    (subst (λ ss. FitsSteps code.shape.now code.methods.now (class_of c.args.m.now.path) (step s (steps_in ss))) last c.requires.fits) c.chosen_block.result c.chosen_block.ensures)
 
 pub returns-in-None-clause-err : goal.returns-in-None-clause-err
 returns-in-None-clause-err c =
@@ -31,9 +31,9 @@ returns-in-None-clause-err c =
     let s = step_of c.args.first.now in
     let last = c.in-None.ensures.none refl in
     let same = rw c.if-done.false at c.in-Ok.ensures.does in
-    subst (λ ss. IfErr c.chosen.result (StopsIn code c.args.contexts.now c.args.m.now (step s (steps_in ss)) c.at_once.new.contexts c.at_once.new.m)) (sym last)
+    subst (λ ss. IfErr c.chosen_block.result (StopsIn code c.args.contexts.now c.args.m.now (step s (steps_in ss)) c.at_once.new.contexts c.at_once.new.m)) (sym last)
     (chose_none code c.args.contexts.now c.at_once.new.contexts c.args.m.now c.at_once.new.m s same c.requires.ready
-    (subst (λ ss. FitsSteps code.shape.now code.methods.now (class_of c.args.m.now.path) (step s (steps_in ss))) last c.requires.fits) c.chosen.result c.chosen.ensures)
+    (subst (λ ss. FitsSteps code.shape.now code.methods.now (class_of c.args.m.now.path) (step s (steps_in ss))) last c.requires.fits) c.chosen_block.result c.chosen_block.ensures)
 
 pub returns-in-Some-clause-ok : goal.returns-in-Some-clause-ok
 returns-in-Some-clause-ok c = rw c.if-done.false at c.in-Ok.ensures.does

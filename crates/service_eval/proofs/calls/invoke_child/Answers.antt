@@ -12,10 +12,10 @@ use Rattle.wave_base.specs.Paths.{parent_of}
 use Rattle.wave_base.specs.Shapes.{IsShape, is_path}
 use Rattle.wave_base.specs.Tree.{there}
 use Rattle.resolved_service.specs.declared.service.Method.{Method}
-use Rattle.resolved_service.specs.World.{World, key_of, child, changed, ticking, entering}
+use Rattle.resolved_service.specs.World.{World, key_of, child, after_change, ticking, entering}
 use Rattle.service_eval.specs.inner.Ready.{Ready}
 use Rattle.service_eval.specs.inner.Items.{Child}
-use Rattle.service_eval.specs.inner.Machines.{Mach, mach_of, on_top, cut_to, in_world, started, own, comes_to}
+use Rattle.service_eval.specs.inner.Machines.{Mach, mach_of, on_top, cut_to, in_world, method_start, own, comes_to}
 use Rattle.service_eval.specs.inner.Turns.{mach}
 use Rattle.service_eval.specs.Worlds.{Holds}
 use Rattle.service_eval.specs.inner.Traces.{world_of, Changes, Fails}
@@ -58,7 +58,7 @@ module _ (shape : Shape) (methods : List Method) (is : IsShape shape) (m : Mach)
   parent_is : there m.state.world.tree (parent_of q) ≡ true
   parent_is = subst (λ p. there m.state.world.tree p ≡ true) (sym (parent_of-child m.path (record { class = record { 0 = class }; key = key_of (own 0 base m.values) }))) r.here
 
-  known : (v : World) → entering q w ≡ Ok (changed v) → Entered shape q w v
+  known : (v : World) → entering q w ≡ Ok (after_change v) → Entered shape q w v
   known v e =
       entered shape q w v (subst (λ (v : World). Holds shape v.tree) (sym same) r.holds) (subst (λ (v : World). All (λ q. there v.tree q ≡ true) v.held) (sym same) r.held) path_is
       (subst (λ (v : World). there v.tree (parent_of q) ≡ true) (sym same) parent_is) e
@@ -94,14 +94,14 @@ returns-in-Ok-take_others c =
     let v = world_of U c.enter.new.trace in
     let w = world_of T c.tick.new.self in
     let q = child m.path c.args.callee.class.0 (own 0 c.args.base m.values) in
-    let is : entering q w ≡ Ok (changed v) = subst (λ q. entering q w ≡ Ok (changed v)) p c.in-Ok-enter.ensures.enters in
+    let is : entering q w ≡ Ok (after_change v) = subst (λ q. entering q w ≡ Ok (after_change v)) p c.in-Ok-enter.ensures.enters in
     let fact = known c.args.code.shape.now c.args.code.methods.now c.requires.shape m c.args.at c.args.callee.class.0 c.args.callee.method c.args.base c.requires.next w (c.in-Ok.ensures.changes T) v is in
     let rest : mach_of U c.cut.new.self ≡ cut_to c.args.base (in_world v m) = c.cut.ensures U ∙ ap (cut_to c.args.base) (c.in-Ok-take_others.ensures.rest U) ∙ ap (λ vs. record (in_world v m) { values = vs }) (take_twice c.args.base m.values) in
-    turned_to c.args.code c.enter.new.contexts (on_top (Child c.args.at c.args.callee.class.0 c.args.callee.method c.args.base) m) (started c.method_at.result.now (drop (suc c.args.base) m.values) true (record (cut_to c.args.base (in_world v m)) { path = q })) c.start.new.m c.start.result
+    turned_to c.args.code c.enter.new.contexts (on_top (Child c.args.at c.args.callee.class.0 c.args.callee.method c.args.base) m) (method_start c.method_at.result.now (drop (suc c.args.base) m.values) true (record (cut_to c.args.base (in_world v m)) { path = q })) c.start.new.m c.start.result
     (l.child_invoked c.args.code.methods.now m c.args.at c.requires.next.few c.method_at.result.now c.args.callee.class.0 c.args.callee.method c.args.base w v (c.in-Ok.ensures.changes T) is fact.ticks c.method_at.ensures)
     (ready_child c.args.code.shape.now c.args.code.methods.now c.requires.methods m c.args.callee.method c.method_at.result.now c.method_at.ensures c.args.at c.args.callee.class.0 c.args.base w v c.requires.shape c.requires.next (c.in-Ok.ensures.changes T) fact)
     fact.holds
-    (on_ok_weaker c.start.result (λ h. h U ∙ (λ i. started c.method_at.result.now (c.in-Ok-take_others.ensures.values i) true (record (rest i) { path = p i }))) c.start.ensures.ok) c.start.ensures.err
+    (on_ok_weaker c.start.result (λ h. h U ∙ (λ i. method_start c.method_at.result.now (c.in-Ok-take_others.ensures.values i) true (record (rest i) { path = p i }))) c.start.ensures.ok) c.start.ensures.err
     (load c.args.code.methods.now (on_top (Child c.args.at c.args.callee.class.0 c.args.callee.method c.args.base) m))
     (child_ticked c.args.code.methods.now m (record { locals = m.state.locals; world = v }) (take c.args.base m.values) ((ticked m.state.world w (c.in-Ok.ensures.changes T)).0 ∙ ap suc (sym fact.ticks)) q c.args.callee.method c.method_at.result.now (drop (suc c.args.base) m.values) true c.method_at.ensures c.args.at c.args.callee.class.0 c.args.base)
 
@@ -113,7 +113,7 @@ returns-in-Err-take_others c =
     let p = is_child c.args.m.now.path c.args.callee.class c.key.result (own 0 c.args.base c.args.m.now.values.items) c.child-path.result (search rules) c.child-path.ensures c.key.ensures in
     let v = world_of U c.enter.new.trace in
     let w = world_of T c.tick.new.self in
-    let is : entering (child m.path c.args.callee.class.0 (own 0 c.args.base m.values)) w ≡ Ok (changed v) = subst (λ q. entering q w ≡ Ok (changed v)) p c.in-Ok-enter.ensures.enters in (
+    let is : entering (child m.path c.args.callee.class.0 (own 0 c.args.base m.values)) w ≡ Ok (after_change v) = subst (λ q. entering q w ≡ Ok (after_change v)) p c.in-Ok-enter.ensures.enters in (
       subst (λ e. Fails (comes_to c.args.code.methods.now (on_top (Child c.args.at c.args.callee.class.0 c.args.callee.method c.args.base) m)) e (world_of U c.take_others.new.self.trace)) (sym c.in-Err-take_others.ensures.err) tt,
       (known c.args.code.shape.now c.args.code.methods.now c.requires.shape m c.args.at c.args.callee.class.0 c.args.callee.method c.args.base c.requires.next w (c.in-Ok.ensures.changes T) v is).holds,
     )

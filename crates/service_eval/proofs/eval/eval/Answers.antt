@@ -23,19 +23,19 @@ pub returns-in-Local : goal.returns-in-Local
 unfolding read_field read_above
 returns-in-Local c =
     at_tree c.args.code c.args.contexts.now c.args.m.now c.give-in-Local.new.m c.give-in-Local.result (tree_of c.args.e.now) (r.Local c.args.e.now.at c.in-Local.slot) (ap (λ n. node_tree n c.args.e.now.at) c.in-Local.is)
-    (gives c.args.code c.args.contexts.now c.args.m.now c.give-in-Local.new.m c.give-in-Local.result (r.Local c.args.e.now.at c.in-Local.slot) _ refl (c.give-in-Local.ensures.ok _ (IfOk-weaker c.owned-value.result _ _ (λ v h. h ∙ c.item.ensures ∙ ap (λ vs. get_or vs c.in-Local.slot nothing) c.as_slice.ensures.value) c.owned-value.ensures.equal)) c.give-in-Local.ensures.err) c.requires
+    (gives c.args.code c.args.contexts.now c.args.m.now c.give-in-Local.new.m c.give-in-Local.result (r.Local c.args.e.now.at c.in-Local.slot) _ refl (c.give-in-Local.ensures.ok _ (IfOk-weaker c.into_value-value.result _ _ (λ v h. h ∙ c.item.ensures ∙ ap (λ vs. get_or vs c.in-Local.slot nothing) c.as_slice.ensures.value) c.into_value-value.ensures.equal)) c.give-in-Local.ensures.err) c.requires
 
 pub returns-in-Field : goal.returns-in-Field
 unfolding read_field read_above
 returns-in-Field c =
     at_tree c.args.code c.args.contexts.now c.args.m.now c.give-in-Field.new.m c.give-in-Field.result (tree_of c.args.e.now) (r.Field c.args.e.now.at c.in-Field.f) (ap (λ n. node_tree n c.args.e.now.at) c.in-Field.is)
-    (gives c.args.code c.args.contexts.now c.args.m.now c.give-in-Field.new.m c.give-in-Field.result (r.Field c.args.e.now.at c.in-Field.f) _ refl (c.give-in-Field.ensures.ok _ (IfOk-weaker c.owned-value-in-Field.result _ _ (λ v h. h ∙ c.field.ensures) c.owned-value-in-Field.ensures.equal)) c.give-in-Field.ensures.err) c.requires
+    (gives c.args.code c.args.contexts.now c.args.m.now c.give-in-Field.new.m c.give-in-Field.result (r.Field c.args.e.now.at c.in-Field.f) _ refl (c.give-in-Field.ensures.ok _ (IfOk-weaker c.into_value-value-in-Field.result _ _ (λ v h. h ∙ c.field.ensures) c.into_value-value-in-Field.ensures.equal)) c.give-in-Field.ensures.err) c.requires
 
 pub returns-in-Above : goal.returns-in-Above
 unfolding read_field read_above
 returns-in-Above c =
     at_tree c.args.code c.args.contexts.now c.args.m.now c.give-in-Above.new.m c.give-in-Above.result (tree_of c.args.e.now) (r.Above c.args.e.now.at c.in-Above.level c.in-Above.f) (ap (λ n. node_tree n c.args.e.now.at) c.in-Above.is)
-    (gives c.args.code c.args.contexts.now c.args.m.now c.give-in-Above.new.m c.give-in-Above.result (r.Above c.args.e.now.at c.in-Above.level c.in-Above.f) _ refl (c.give-in-Above.ensures.ok _ (IfOk-weaker c.owned-value-in-Above.result _ _ (λ v h. h ∙ c.field-in-Above.ensures ∙ ap (λ p. get_or (shown_fields c.args.code.shape.now c.args.contexts.now.shots p) c.in-Above.f nothing) c.above-path.ensures) c.owned-value-in-Above.ensures.equal)) c.give-in-Above.ensures.err) c.requires
+    (gives c.args.code c.args.contexts.now c.args.m.now c.give-in-Above.new.m c.give-in-Above.result (r.Above c.args.e.now.at c.in-Above.level c.in-Above.f) _ refl (c.give-in-Above.ensures.ok _ (IfOk-weaker c.into_value-value-in-Above.result _ _ (λ v h. h ∙ c.field-in-Above.ensures ∙ ap (λ p. get_or (shown_fields c.args.code.shape.now c.args.contexts.now.shots p) c.in-Above.f nothing) c.above-path.ensures) c.into_value-value-in-Above.ensures.equal)) c.give-in-Above.ensures.err) c.requires
 
 pub operate-requires : goal.operate-requires
 operate-requires c =

@@ -4,12 +4,12 @@ use Rattle.wave_base.specs.Paths.{parent_of}
 use Rattle.wave_base.specs.Shapes.{is_path}
 use Rattle.wave_base.specs.Tree.{there}
 use Rattle.resolved_service.specs.Meaning.{Done, and_then, with_world, release}
-use Rattle.resolved_service.specs.World.{child, changed, entering, releasing}
+use Rattle.resolved_service.specs.World.{child, after_change, entering, releasing}
 use Rattle.service_eval.specs.inner.Machines.{Mach, state_of}
 use Rattle.service_eval.specs.inner.Ready.{Ready}
 use Rattle.service_eval.specs.inner.Turns.{mach}
 use Rattle.service_eval.specs.Worlds.{Holds}
-use Rattle.service_eval.specs.inner.Traces.{world_of, plain, Changes}
+use Rattle.service_eval.specs.inner.Traces.{world_of, uncounted_outcome, Changes}
 use Rattle.service_eval.specs.inner.Parts.{went_down}
 use Rattle.service_eval.proofs.CallLemmas.{world_fails}
 use Rattle.service_eval.proofs.Outcomes.{traps_fail}
@@ -50,8 +50,8 @@ returns-clause-comes c =
     let p = is_child c.args.m.now.path c.args.phase.now.class c.key_of.result c.args.key.now c.child-path.result (search rules) c.child-path.ensures c.key_of.ensures in
     let q = child c.args.m.now.path c.args.phase.now.class.0 c.args.key.now in
     let v = world_of U c.enter.new.trace in
-    let e : entering q (world_of T c.args.m.now.trace) ≡ Ok (changed v) = subst (λ q. entering q (world_of T c.args.m.now.trace) ≡ Ok (changed v)) p c.in-Ok.ensures.enters in
-    ap (λ a. plain (and_then (with_world a c.args.phase.now.at (state_of T c.args.m.now)) (λ _. release q))) e
+    let e : entering q (world_of T c.args.m.now.trace) ≡ Ok (after_change v) = subst (λ q. entering q (world_of T c.args.m.now.trace) ≡ Ok (after_change v)) p c.in-Ok.ensures.enters in
+    ap (λ a. uncounted_outcome (and_then (with_world a c.args.phase.now.at (state_of T c.args.m.now)) (λ _. release q))) e
     ∙ ap (λ w. Done tt (record { locals = c.args.m.now.locals.items; world = w })) (sym (c.release.ensures U ∙ ap (λ q. releasing q v) p))
 
 pub returns-clause-rests : goal.returns-clause-rests
@@ -62,7 +62,7 @@ returns-clause-rests c =
     let q = child c.args.m.now.path c.args.phase.now.class.0 c.args.key.now in
     let v = world_of U c.enter.new.trace in
     let m = mach c.args.code c.args.contexts.now c.args.m.now in
-    let e : entering q (world_of T c.args.m.now.trace) ≡ Ok (changed v) = subst (λ q. entering q (world_of T c.args.m.now.trace) ≡ Ok (changed v)) p c.in-Ok.ensures.enters in
+    let e : entering q (world_of T c.args.m.now.trace) ≡ Ok (after_change v) = subst (λ q. entering q (world_of T c.args.m.now.trace) ≡ Ok (after_change v)) p c.in-Ok.ensures.enters in
     let w = c.release.ensures U ∙ ap (λ q. releasing q v) p in
     record {
       ready = subst (λ (m : Mach). Ready c.args.code.shape.now c.args.code.methods.now m) (λ i. record { items = m.items; values = m.values; path = sym p i; state = record { locals = m.state.locals; world = sym w i } })
@@ -81,5 +81,5 @@ returns-clause-holds c =
     let p = is_child c.args.m.now.path c.args.phase.now.class c.key_of.result c.args.key.now c.child-path.result (search rules) c.child-path.ensures c.key_of.ensures in
     let q = child c.args.m.now.path c.args.phase.now.class.0 c.args.key.now in
     let v = world_of U c.enter.new.trace in
-    let e : entering q (world_of T c.args.m.now.trace) ≡ Ok (changed v) = subst (λ q. entering q (world_of T c.args.m.now.trace) ≡ Ok (changed v)) p c.in-Ok.ensures.enters in
+    let e : entering q (world_of T c.args.m.now.trace) ≡ Ok (after_change v) = subst (λ q. entering q (world_of T c.args.m.now.trace) ≡ Ok (after_change v)) p c.in-Ok.ensures.enters in
     (down_known c.args.code.shape.now c.args.code.methods.now (mach c.args.code c.args.contexts.now c.args.m.now) c.requires.rests.ready c.requires.rests.items c.args.phase.now.class.0 c.args.key.now c.requires.fits v e).holds

@@ -4,7 +4,7 @@ use Rattle.resolved_service.specs.Meaning.{Done}
 use Rattle.resolved_service.specs.View.{tree_of}
 use Rattle.service_eval.specs.inner.Machines.{Mach, Rest, own}
 use Rattle.service_eval.specs.inner.Ready.{Ready}
-use Rattle.service_eval.specs.inner.Traces.{plain}
+use Rattle.service_eval.specs.inner.Traces.{uncounted_outcome}
 use Rattle.service_eval.proofs.EventLemmas as l
 use Rattle.service_eval.proofs.ReadyLemmas.{ready_with}
 use Rattle.service_eval.proofs.event.value_of.Goals as goal
@@ -20,7 +20,7 @@ returns-in-Ok-run-clause-comes c =
     let h = l.value_comes c.args.code c.args.contexts.now c.run.new.contexts c.args.m.now c.push.new.self c.run.new.m c.requires.rests (tree_of c.args.e.now) (c.in-Ok.ensures.ok (shown c.args.code.shape.now c.args.contexts.now)) c.in-Ok-run.ensures in
     let v = ap (own 0 0) (ap (λ (r : Rest). r.values) h.2) ∙ sym c.take.ensures.value in
     let st = ap (λ (m : Mach). m.state) (sym (c.take.ensures.rest U)) in
-    h.1 ∙ (λ i. plain (Done (v i) (st i)))
+    h.1 ∙ (λ i. uncounted_outcome (Done (v i) (st i)))
 
 pub returns-in-Ok-run-clause-rests : goal.returns-in-Ok-run-clause-rests
 returns-in-Ok-run-clause-rests c =

@@ -1,7 +1,7 @@
 use Rattle.std.proofs.Common.{drop, sym, ap, subst, ◌∙◌}
 use Rattle.context_tree.specs.Contexts.{tree_of as shown}
 use Rattle.wave_base.specs.declared.limits.TheConstants.{TICKS}
-use Rattle.resolved_service.specs.Meaning.{called}
+use Rattle.resolved_service.specs.Meaning.{call_act}
 use Rattle.service_eval.specs.declared.edits.Edit.TheVariants as edit
 use Rattle.service_eval.specs.declared.work.StatementEnd.TheVariants as ending
 use Rattle.service_eval.specs.inner.Changes.{changing}
@@ -29,7 +29,7 @@ returns-clause-goes c =
     let does : Does code c.args.contexts.now c.take-key.new.self (changing M.path at v (edit.Cut c.take-key.result)) c.change.result c.change.new.contexts c.change.new.m =
     subst (λ p. Does code c.args.contexts.now c.take-key.new.self (changing p at v (edit.Cut c.take-key.result)) c.change.result c.change.new.contexts c.change.new.m) (ap (λ (x : Mach). x.path) took) c.change.ensures.does in
     change_turn code c.args.contexts.now c.change.new.contexts c.args.m.now c.take-key.new.self c.change.new.m at c.args.base (end_of (ending.Cut v)) (changing M.path at v (edit.Cut c.take-key.result)) c.change.result took
-    (cut_ends (called code.methods.now TICKS) TICKS M.path at M.state (drop c.args.base M.values) v ∙ ap (λ x. changing M.path at v (edit.Cut x) M.state) (sym c.take-key.ensures.value)) does
+    (cut_ends (call_act code.methods.now TICKS) TICKS M.path at M.state (drop c.args.base M.values) v ∙ ap (λ x. changing M.path at v (edit.Cut x) M.state) (sym c.take-key.ensures.value)) does
 
 pub returns-clause-memory : goal.returns-clause-memory
 returns-clause-memory c = c.change.ensures.memory

@@ -24,5 +24,5 @@ returns-then-holds-clause-goes c =
 pub returns-else-holds-clause-goes : goal.returns-else-holds-clause-goes
 returns-else-holds-clause-goes c =
     let m = (mach c.args.code c.args.contexts.now c.args.m.now) in
-    subst (λ r. Goes c.args.code c.args.contexts.now c.args.m.now (Finish c.args.at i.Require c.args.base) r c.args.contexts.now c.args.m.now) (sym c.trapped.ensures)
+    subst (λ r. Goes c.args.code c.args.contexts.now c.args.m.now (Finish c.args.at i.Require c.args.base) r c.args.contexts.now c.args.m.now) (sym c.trap_at.ensures)
     (l.not_finished c.args.code.methods.now m c.args.at c.args.base i.Require (Trapped (record { kind = Requires; at = c.args.at })) m.state.world (ap (λ b. demand b c.args.at m.state) (sym c.is_true-holds.ensures ∙ c.if-holds.false)), c.requires.holds)

@@ -1,7 +1,7 @@
 use Rattle.std.proofs.Common.{drop, sym, ap, subst, ◌∙◌}
 use Rattle.context_tree.specs.Contexts.{tree_of as shown}
 use Rattle.wave_base.specs.declared.limits.TheConstants.{TICKS}
-use Rattle.resolved_service.specs.Meaning.{called}
+use Rattle.resolved_service.specs.Meaning.{call_act}
 use Rattle.service_eval.specs.declared.edits.Edit.TheVariants as edit
 use Rattle.service_eval.specs.declared.work.StatementEnd.TheVariants as ending
 use Rattle.service_eval.specs.inner.Changes.{changing}
@@ -31,7 +31,7 @@ returns-clause-goes c =
     let does : Does code c.args.contexts.now c.take_two-key.new.self (changing M.path at v (edit.Put c.take_two-key.result.0 c.take_two-key.result.1)) c.change.result c.change.new.contexts c.change.new.m =
     subst (λ p. Does code c.args.contexts.now c.take_two-key.new.self (changing p at v (edit.Put c.take_two-key.result.0 c.take_two-key.result.1)) c.change.result c.change.new.contexts c.change.new.m) (ap (λ (x : Mach). x.path) took) c.change.ensures.does in
     change_turn code c.args.contexts.now c.change.new.contexts c.args.m.now c.take_two-key.new.self c.change.new.m at c.args.base (end_of (ending.Put v)) (changing M.path at v (edit.Put c.take_two-key.result.0 c.take_two-key.result.1)) c.change.result took
-    (put_ends (called code.methods.now TICKS) TICKS M.path at M.state (drop c.args.base M.values) v ∙ (λ i. changing M.path at v (edit.Put (sym c.take_two-key.ensures.first i) (sym c.take_two-key.ensures.second i)) M.state)) does
+    (put_ends (call_act code.methods.now TICKS) TICKS M.path at M.state (drop c.args.base M.values) v ∙ (λ i. changing M.path at v (edit.Put (sym c.take_two-key.ensures.first i) (sym c.take_two-key.ensures.second i)) M.state)) does
 
 pub returns-clause-memory : goal.returns-clause-memory
 returns-clause-memory c =

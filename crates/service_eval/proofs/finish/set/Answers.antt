@@ -1,7 +1,7 @@
 use Rattle.std.proofs.Common.{drop, sym, ap, subst, ◌∙◌}
 use Rattle.context_tree.specs.Contexts.{tree_of as shown}
 use Rattle.wave_base.specs.declared.limits.TheConstants.{TICKS}
-use Rattle.resolved_service.specs.Meaning.{called}
+use Rattle.resolved_service.specs.Meaning.{call_act}
 use Rattle.service_eval.specs.declared.edits.Edit.TheVariants as edit
 use Rattle.service_eval.specs.declared.work.StatementEnd.TheVariants as ending
 use Rattle.service_eval.specs.inner.Changes.{changing}
@@ -29,7 +29,7 @@ returns-clause-goes c =
     let does : Does code c.args.contexts.now c.take-value.new.self (changing M.path at v (edit.Set c.take-value.result)) c.set_variable.result c.set_variable.new.contexts c.set_variable.new.m =
     subst (λ p. Does code c.args.contexts.now c.take-value.new.self (changing p at v (edit.Set c.take-value.result)) c.set_variable.result c.set_variable.new.contexts c.set_variable.new.m) (ap (λ (x : Mach). x.path) took) c.set_variable.ensures.does in
     change_turn code c.args.contexts.now c.set_variable.new.contexts c.args.m.now c.take-value.new.self c.set_variable.new.m at c.args.base (end_of (ending.Set v)) (changing M.path at v (edit.Set c.take-value.result)) c.set_variable.result took
-    (set_ends (called code.methods.now TICKS) TICKS M.path at M.state (drop c.args.base M.values) v ∙ ap (λ x. changing M.path at v (edit.Set x) M.state) (sym c.take-value.ensures.value)) does
+    (set_ends (call_act code.methods.now TICKS) TICKS M.path at M.state (drop c.args.base M.values) v ∙ ap (λ x. changing M.path at v (edit.Set x) M.state) (sym c.take-value.ensures.value)) does
 
 pub returns-clause-memory : goal.returns-clause-memory
 returns-clause-memory c = c.set_variable.ensures.memory

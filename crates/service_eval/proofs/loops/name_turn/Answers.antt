@@ -20,8 +20,8 @@ pub returns-in-Err : goal.returns-in-Err
 returns-in-Err c =
     (l.counts_fails c.args.code.methods.now (mach c.args.code c.args.contexts.now c.args.m.now) c.args.cycle.at c.args.cycle.counter (steps_in c.args.cycle.body.now) c.requires.next.few c.args.value c.requires.test c.in-Err.e _ c.requires.holds (c.in-Err.ensures.changes (shown c.args.code.shape.now c.args.contexts.now)), c.requires.next.holds)
 
-pub returns-in-Ok-owned : goal.returns-in-Ok-owned
-returns-in-Ok-owned c =
+pub returns-in-Ok-into_value : goal.returns-in-Ok-into_value
+returns-in-Ok-into_value c =
     let code = c.args.code in
     let T = shown code.shape.now c.args.contexts.now in
     let w = world_of T c.tick.new.self in
@@ -30,7 +30,7 @@ returns-in-Ok-owned c =
     let counter = c.args.cycle.counter in
     let body = steps_in c.args.cycle.body.now in
     let st : State = record { locals = slice_set m.state.locals (counter + 2) (get_or m.state.locals counter nothing); world = w } in
-    let number : c.in-Ok-owned.number ≡ get_or m.state.locals counter nothing = c.in-Ok-owned.ensures.equal ∙ c.item.ensures ∙ ap (λ vs. get_or vs counter nothing) c.as_slice.ensures.value in
+    let number : c.in-Ok-into_value.number ≡ get_or m.state.locals counter nothing = c.in-Ok-into_value.ensures.equal ∙ c.item.ensures ∙ ap (λ vs. get_or vs counter nothing) c.as_slice.ensures.value in
     let is = c.set_local.ensures T ∙ ap (λ (v : Value). in_state (record { locals = slice_set m.state.locals (counter + 2) v; world = w }) m) number in (
       l.counts_more code.methods.now m at counter body c.requires.next.few c.args.value c.requires.test w c.requires.holds (c.in-Ok.ensures.changes T)
           ∙ ap (λ (x : Mach). comes_to code.methods.now (on_top (Block body) (on_top (Again at counter body) x))) (sym is),

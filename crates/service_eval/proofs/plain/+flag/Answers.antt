@@ -1,7 +1,7 @@
 use Rattle.std.proofs.Common.{◌≡◌, true, false, map, [], ◌∷◌, Ok, IfSome, sym, ap, subst, ◌∙◌, rules, w64}
 use Rattle.std.proofs.lemmas.Int.{to_z-of_z}
 use Rattle.context_tree.specs.Contexts.{tree_of as shown}
-use Rattle.resolved_service.specs.Meaning.{value, called, Done}
+use Rattle.resolved_service.specs.Meaning.{value, call_act, Done}
 use Rattle.resolved_service.specs.View as r
 use Rattle.resolved_service.specs.View.{Tree, node_tree, tree_of, trees_of}
 use Rattle.service_eval.specs.inner.Answers.{Gives}
@@ -25,7 +25,7 @@ pub flag-returns-in-Some-true : goal.flag-returns-in-Some-true
 flag-returns-in-Some-true t c =
     let view = c.args.view.now in
     let st = state_of (shown view.code.shape.now view.contexts.now) view.m.now in
-    let k = called view.code.methods.now TICKS in
+    let k = call_act view.code.methods.now TICKS in
     let p = view.m.now.path in
     let e = c.args.e.now in
     let d = c.deref.ensures in
@@ -42,7 +42,7 @@ pub flag-returns-in-Some-false : goal.flag-returns-in-Some-false
 flag-returns-in-Some-false t c =
     let view = c.args.view.now in
     let st = state_of (shown view.code.shape.now view.contexts.now) view.m.now in
-    let k = called view.code.methods.now TICKS in
+    let k = call_act view.code.methods.now TICKS in
     let p = view.m.now.path in
     let e = c.args.e.now in
     let d = c.deref.ensures in
@@ -55,7 +55,7 @@ pub flag-returns-in-Some-true-flag : goal.flag-returns-in-Some-true-flag
 flag-returns-in-Some-true-flag t c =
     let view = c.args.view.now in
     let st = state_of (shown view.code.shape.now view.contexts.now) view.m.now in
-    let k = called view.code.methods.now TICKS in
+    let k = call_act view.code.methods.now TICKS in
     let p = view.m.now.path in
     let e = c.args.e.now in
     let d = c.deref-in-Or.ensures in
@@ -68,7 +68,7 @@ pub flag-returns-in-Some-false-flag : goal.flag-returns-in-Some-false-flag
 flag-returns-in-Some-false-flag t c =
     let view = c.args.view.now in
     let st = state_of (shown view.code.shape.now view.contexts.now) view.m.now in
-    let k = called view.code.methods.now TICKS in
+    let k = call_act view.code.methods.now TICKS in
     let p = view.m.now.path in
     let e = c.args.e.now in
     let d = c.deref-in-Or.ensures in
@@ -90,17 +90,17 @@ flag_of_two-returns-in-Some-number t c =
     let y = to_z-of_z w64 c.in-Some-number.second (search rules) in
     let given : apply_row c.args.row (Number c.in-Some.first ∷ Number c.in-Some-number.second ∷ []) ≡ c.apply_ints.result = (λ i. apply_row c.args.row (Number (sym x i) ∷ Number (sym y i) ∷ [])) ∙ sym c.apply_ints.ensures in
     if_some (λ n. c.apply_ints.result ≡ Ok (Truth n)) (λ n. IsWorth view (r.Op c.args.at c.args.row (r.tree (tree_of c.args.a.now) (r.tree (tree_of c.args.b.now) r.no_trees))) (Truth n)) c.flag_in.result
-    (λ n h. of_two (called view.code.methods.now TICKS) view.m.now.path c.args.at c.args.row st (tree_of c.args.a.now) (tree_of c.args.b.now) _ _ (Truth n) first c.in-Some-number.ensures (given ∙ h)) c.flag_in.ensures
+    (λ n h. of_two (call_act view.code.methods.now TICKS) view.m.now.path c.args.at c.args.row st (tree_of c.args.a.now) (tree_of c.args.b.now) _ _ (Truth n) first c.in-Some-number.ensures (given ∙ h)) c.flag_in.ensures
 
 pub flag_of_two-returns-in-Some-flag-2 : goal.flag_of_two-returns-in-Some-flag-2
 flag_of_two-returns-in-Some-flag-2 t c =
     let view = c.args.view.now in
     let st = state_of (shown view.code.shape.now view.contexts.now) view.m.now in
-    of_two (called view.code.methods.now TICKS) view.m.now.path c.args.at c.args.row st (tree_of c.args.a.now) (tree_of c.args.b.now) _ _ (Truth c.compare_flags.result) c.in-Some-flag.ensures c.in-Some-flag-2.ensures c.compare_flags.ensures
+    of_two (call_act view.code.methods.now TICKS) view.m.now.path c.args.at c.args.row st (tree_of c.args.a.now) (tree_of c.args.b.now) _ _ (Truth c.compare_flags.result) c.in-Some-flag.ensures c.in-Some-flag-2.ensures c.compare_flags.ensures
 
 pub flag_of_one-returns-in-Some : goal.flag_of_one-returns-in-Some
 flag_of_one-returns-in-Some t c =
     let view = c.args.view.now in
     let st = state_of (shown view.code.shape.now view.contexts.now) view.m.now in
     if_some (λ n. c.apply_one.result ≡ Ok (Truth n)) (λ n. IsWorth view (r.Op c.args.at c.args.row (r.tree (tree_of c.args.a.now) r.no_trees)) (Truth n)) c.flag_found.result
-    (λ n h. of_one (called view.code.methods.now TICKS) view.m.now.path c.args.at c.args.row st (tree_of c.args.a.now) (Truth c.in-Some.b) (Truth n) c.in-Some.ensures (subst (Gives (apply_row c.args.row (Truth c.in-Some.b ∷ [])) c.args.at) h c.apply_one.ensures)) c.flag_found.ensures
+    (λ n h. of_one (call_act view.code.methods.now TICKS) view.m.now.path c.args.at c.args.row st (tree_of c.args.a.now) (Truth c.in-Some.b) (Truth n) c.in-Some.ensures (subst (Gives (apply_row c.args.row (Truth c.in-Some.b ∷ [])) c.args.at) h c.apply_one.ensures)) c.flag_found.ensures

@@ -12,7 +12,7 @@ pub returns-then-row-ge-OPERATORS : goal.returns-then-row-ge-OPERATORS
 returns-then-row-ge-OPERATORS c = subst (λ a. Gives a c.args.at c.trapping.result) (sym (past_rows c.args.row (c.args.a.now ∷ c.args.b.now ∷ []) c.if-row-ge-OPERATORS.true)) c.trapping.ensures
 
 pub returns-in-Texts-Str-Str : goal.returns-in-Texts-Str-Str
-returns-in-Texts-Str-Str c = c.placed.ensures _ (answers_two c.args.row _ _ _ _ _ c.in-Texts-Str-Str.is-1 c.in-Texts-Str-Str.is-2 c.apply_texts.ensures)
+returns-in-Texts-Str-Str c = c.with_place.ensures _ (answers_two c.args.row _ _ _ _ _ c.in-Texts-Str-Str.is-1 c.in-Texts-Str-Str.is-2 c.apply_texts.ensures)
 
 pub returns-in_default : goal.returns-in_default
 returns-in_default c =

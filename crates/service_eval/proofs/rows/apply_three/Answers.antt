@@ -20,7 +20,7 @@ returns-in-TextIntInt-Str-Int-Int c =
     let w = c.in-TextIntInt-Str-Int-Int in
     let x : FitsSigned w64 w.x = search rules in
     let y : FitsSigned w64 w.y = search rules in
-    c.placed.ensures _
+    c.with_place.ensures _
     (answers_three c.args.row _ _ _ _ _ _ _ _ (part_row c.args.row (sym w.ensures)) w.is-1 (w.is-2 ∙ ap Int (sym (to_z-of_z w64 w.x x))) (w.is-3 ∙ ap Int (sym (to_z-of_z w64 w.y y))) c.part.ensures)
 
 -- the row's answer to values as they are named

@@ -35,5 +35,5 @@ returns-in-Err-put_pair c =
     let given = apply_row 20 (Map c.args.map.now ∷ Int c.args.key ∷ Int c.args.value ∷ []) in
     let e = c.in-Err-put_pair.e in
     let may = put_may c.args.map.now c.args.key c.args.value (room c.args.map.now c.args.key c.is_full.result c.ranges.key c.is_full.ensures c.if-is_full.false) in
-    c.placed.ensures given
+    c.with_place.ensures given
     (answers_err given e (subst (λ x. (trap : TrapKind) → ◌↔◌ (◌≡◌ {A = Result (Unit {0}) OpError} (Err e) (Err (Trap trap))) (x ≡ Err trap)) (copied c.args.map.now c.in-Ok.more c.args.key c.args.value c.in-Ok.ensures c.ranges.key c.ranges.value) c.in-Err-put_pair.ensures.trap) may)

@@ -7,10 +7,10 @@ use Rattle.service_eval.specs.inner.Machines.{Mach, rest_at, come_of, comes_to}
 use Rattle.service_eval.specs.inner.Ready.{Ready}
 use Rattle.service_eval.specs.inner.Turns.{mach}
 use Rattle.service_eval.specs.inner.Weight.{load}
-use Rattle.service_eval.specs.inner.Traces.{world_of, plain, Fails}
+use Rattle.service_eval.specs.inner.Traces.{world_of, uncounted_outcome, Fails}
 use Rattle.service_eval.proofs.run.run.Goals as goal
 
-at_rest : (methods : List Method) (m : Mach) → m.items ≡ [] → comes_to methods m ≡ plain (Done (rest_at m.path m.values) m.state)
+at_rest : (methods : List Method) (m : Mach) → m.items ≡ [] → comes_to methods m ≡ uncounted_outcome (Done (rest_at m.path m.values) m.state)
 at_rest methods m e = ap (λ items. come_of methods items m.path (Done m.values m.state)) e
 
 pub turn-requires-clause-next : goal.turn-requires-clause-next

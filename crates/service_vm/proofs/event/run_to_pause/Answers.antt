@@ -21,8 +21,8 @@ back-requires c =
     (subst (Stands c.program.result.now s.0 s.1) (sym (ap (λ (b : Boxed). b.event) c.event.view_is)) stands) has c.in_ok-why.ensures.did c.in-Back.is in
     subst (λ views. 0 < length views) (sym c.pause.ensures.stays.0) h
 
-pub kept-requires : goal.kept-requires
-kept-requires c =
+pub kept_fields-requires : goal.kept_fields-requires
+kept_fields-requires c =
     let s = c.requires.stands in
     subst (λ n. n < length c.args.program.now.shape.classes) (sym c.class-class.ensures)
     (class_known c.args.program.now c.requires.fit s.0 s.1 (event_in c.event.inside.ended c.event.inside.run) (subst (Stands c.args.program.now s.0 s.1) (sym (ap (λ (b : Boxed). b.event) c.event.view_is)) s.2))
@@ -33,7 +33,7 @@ leave-requires c =
     let e = c.program.ensures.program in
     let stands = subst (λ q. Stands q s.0 s.1 (event_in c.event.inside.ended c.event.inside.run)) (sym e) (subst (Stands c.args.program.now s.0 s.1) (sym (ap (λ (b : Boxed). b.event) c.event.view_is)) s.2) in
     let has = subst (λ q. HasFields q.shape s.0 c.args.body.now.fields) (sym e) s.3 in
-    ap length (c.kept.ensures.kept ∙ ap (kept c.args.program.now) c.class-class.ensures)
+    ap length (c.kept_fields.ensures.kept ∙ ap (kept c.args.program.now) c.class-class.ensures)
     ∙ ap (λ q. length (kept q (class_of c.event.inside.run.path))) (sym e)
     ∙ kept_fits c.program.result.now (subst IsFit (sym e) c.requires.fit) (subst IsVerified (sym e) c.program.ensures.verified) s.0 s.1 c.event.inside.ended c.event.inside.run c.pause.new.self c.args.body.now.fields c.pause.new.fields c.in_ok-why.why stands has c.in_ok-why.ensures.did
 

@@ -5,7 +5,7 @@ use Rattle.snapshot_text.proofs.FaultLemmas.{out_of_order}
 use Rattle.snapshot_text.proofs.line.read_line.Goals as goal
 
 pub returns-in_default-clause-err : goal.returns-in_default-clause-err
-returns-in_default-clause-err c = inr (c.in_ok-fault.fault, c.in_ok-fault.ensures c.args.before.now, c.refused.ensures)
+returns-in_default-clause-err c = inr (c.in_ok-fault.fault, c.in_ok-fault.ensures c.args.before.now, c.error_at.ensures)
 
 pub returns-else-comes_next-clause-err : goal.returns-else-comes_next-clause-err
 returns-else-comes_next-clause-err c =

@@ -13,9 +13,9 @@ returns-then-bytes-gt-TEXT_BYTES c =
     let long : 1000 < length c.args.s.now + length c.args.t.now = omega (arith, ap length c.bytes.ensures.bytes, ap length c.bytes-2.ensures.bytes) in
     ap (answer_of Text) (joined_long c.args.s.now c.args.t.now long)
 
-pub returns-in_err-joined : goal.returns-in_err-joined
+pub returns-in_err-joined_text : goal.returns-in_err-joined_text
 unfolding apply_row operators
-returns-in_err-joined c =
+returns-in_err-joined_text c =
     let short : length c.args.s.now + length c.args.t.now ≤ 1000 = omega (arith, ap length c.bytes.ensures.bytes, ap length c.bytes-2.ensures.bytes) in
     wants_memory _ _ c.from_residual.ensures.1 (may_want_text _ _ (ap (answer_of Text) (joined_short c.args.s.now c.args.t.now short)))
 
@@ -23,4 +23,4 @@ pub returns : goal.returns
 unfolding apply_row operators
 returns c =
     let short : length c.args.s.now + length c.args.t.now ≤ 1000 = omega (arith, ap length c.bytes.ensures.bytes, ap length c.bytes-2.ensures.bytes) in
-    ap (answer_of Text) (joined_short c.args.s.now c.args.t.now short) ∙ ap (λ t. Ok (Str t)) (sym c.in_ok-joined.ensures)
+    ap (answer_of Text) (joined_short c.args.s.now c.args.t.now short) ∙ ap (λ t. Ok (Str t)) (sym c.in_ok-joined_text.ensures)

@@ -9,8 +9,8 @@ use Rattle.value_ops.proofs.values.apply_any_int.Goals as goal
 
 pub returns-then-row-eq-STR : goal.returns-then-row-eq-STR
 returns-then-row-eq-STR c =
-    let given = subst (λ z. Answers (apply_row 26 (value.Int z ∷ [])) c.written.result) (to_z-of_z w64 c.args.a c.ranges.a) c.written.ensures in
-    subst (λ row. Answers (apply_row row (value.Int c.args.a ∷ [])) c.written.result) (sym c.if-row-eq-STR.true) given
+    let given = subst (λ z. Answers (apply_row 26 (value.Int z ∷ [])) c.text_of_int.result) (to_z-of_z w64 c.args.a c.ranges.a) c.text_of_int.ensures in
+    subst (λ row. Answers (apply_row row (value.Int c.args.a ∷ [])) c.text_of_int.result) (sym c.if-row-eq-STR.true) given
 
 pub apply_int-requires-clause-gives : goal.apply_int-requires-clause-gives
 apply_int-requires-clause-gives c = gives_no_text c.args.row c.requires c.if-row-eq-STR.false

@@ -29,7 +29,7 @@ returns c = λ o b s worker h may unfinished nothing.
     let none : (l : Label) → l.worker ≡ worker.0 → step (plan_actors p.program) p.workers s l ≡ None =
     subst (λ (q : Plan). (l : Label) → l.worker ≡ worker.0 → step (plan_actors q.program) q.workers s l ≡ None) h.plan nothing in
     let ends = c.empty_at_end.ensures k p.workers from p.script.batches starts jobs (labels_of b) s reached in
-    let lists = c.listed.ensures k p.workers from p.script.batches starts jobs (labels_of b) s reached in
+    let lists = c.lists_are_exact.ensures k p.workers from p.script.batches starts jobs (labels_of b) s reached in
     let stuck = c.never_stuck.ensures k p.workers from p.script.batches starts jobs (labels_of b) s reached in
     let out = some_out (plan_actors p.program) p.workers s worker.0 own idle none (enabled (plan_actors p.program) p.workers p.script.hosts s)
     (λ l i. ((lists l).0 i).0)

@@ -10,5 +10,5 @@ returns c = λ plan start labels s fits begins reached.
     let is_begin = begin_fits plan fits start begins in
     let is_plan = plan_fits plan fits in
     record {
-      listed = c.listed.ensures k plan.workers b plan.script.batches is_begin is_plan labels s reached;
+      listed = c.lists_are_exact.ensures k plan.workers b plan.script.batches is_begin is_plan labels s reached;
     }

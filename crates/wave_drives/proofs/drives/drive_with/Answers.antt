@@ -27,8 +27,8 @@ drive_on-requires-clause-under c =
 pub drive_on-requires-clause-plan : goal.drive_on-requires-clause-plan
 drive_on-requires-clause-plan c = ap (λ (x : Shown). x.kept.plan) c.in_ok-walk.ensures.machine ∙ c.in_ok-machine.ensures.plan
 
-pub told-requires : goal.told-requires
-told-requires c =
+pub finished_of-requires : goal.finished_of-requires
+finished_of-requires c =
     let f = c.in_ok-labels.ensures.finished in
     (c.args.start.now, f.0, f.1, subst (λ (q : Plan). Finished (plan_actors q.program) q.workers f.0) (sym c.in_ok-labels.ensures.plan) f.2)
 

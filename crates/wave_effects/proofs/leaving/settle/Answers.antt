@@ -11,5 +11,5 @@ turned k q = nat_eq_equiv.symm k q ∙ unsigned_ties q k
 
 pub returns-in-Some-clause-results : goal.returns-in-Some-clause-results
 returns-in-Some-clause-results c = λ u.
-    ap (λ m. table.get m u) c.done.ensures.results ∙ table.get-insert nat_cmp_total c.args.commits.now.results c.args.ticket.0 _ u
+    ap (λ m. table.get m u) c.add_result.ensures.results ∙ table.get-insert nat_cmp_total c.args.commits.now.results c.args.ticket.0 _ u
     ∙ (λ i. cond (sym (turned c.args.ticket.0 u) i) (sym c.in-Some.is i) (table.get c.args.commits.now.results u))

@@ -4,7 +4,7 @@ use Rattle.wave_base.specs.declared.record.Record.{Record}
 use Rattle.wave_base.specs.Paths.{path_eq}
 use Rattle.wave_base.specs.Starts.{shown_fields}
 use Rattle.wave_base.specs.Tree.{put}
-use Rattle.context_tree.specs.Contexts.{Contexts, kept, tree_of, is_there}
+use Rattle.context_tree.specs.Contexts.{Contexts, contexts_of, tree_of, is_there}
 use Rattle.context_tree.proofs.KeptLemmas.{not_there, shown_record, tree_changed}
 use Rattle.context_tree.proofs.tree.Tree.exchange.Goals as goal
 
@@ -25,7 +25,7 @@ returns-clause-put c =
     let written = c.get_mut.follows.holds w in
     let here : IsSome (lookup (path_eq c.args.path.now) es) = ap is_some (sym c.in-Some.ensures.value) in
     tree_changed shape es (c.get_mut.follows.lender w).entries c.args.path.now w (written.3 here).0 here
-    ∙ ap (put (tree_of shape (kept es)) c.args.path.now) c.replace.ensures.after
+    ∙ ap (put (tree_of shape (contexts_of es)) c.args.path.now) c.replace.ensures.after
     ∙ ap (λ t. put (tree_of shape t) c.args.path.now c.args.fields) c.self.view_is
 
 pub returns-clause-joined : goal.returns-clause-joined

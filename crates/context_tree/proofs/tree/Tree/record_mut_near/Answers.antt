@@ -13,7 +13,7 @@ use Rattle.wave_base.specs.Paths.{path_eq}
 use Rattle.wave_base.specs.PathLaws.{path_eq_equiv}
 use Rattle.wave_base.specs.Starts.{shown_fields}
 use Rattle.wave_base.specs.Tree.{put}
-use Rattle.context_tree.specs.Contexts.{Contexts, kept, tree_of, is_there, with_fields}
+use Rattle.context_tree.specs.Contexts.{Contexts, contexts_of, tree_of, is_there, with_fields}
 use Rattle.context_tree.proofs.KeptLemmas.{shown_record, kept_with, put_fields}
 use Rattle.context_tree.proofs.SlotLemmas.{entry_at, there_below, none_past}
 use Rattle.context_tree.proofs.tree.Tree.record_mut_near.Goals as goal
@@ -34,13 +34,13 @@ returns c =
     let p = c.args.path.now in
     let o = c.get_index_mut.result in
     let place = c.place_near-place.result in
-    let at : is_there (kept es) p ≡ true → slice_get (keys_of es) place ≡ Some p = c.place_near-place.ensures.place in
-    let past : is_there (kept es) p ≡ false → length (keys_of es) ≤ place = c.place_near-place.ensures.past in
+    let at : is_there (contexts_of es) p ≡ true → slice_get (keys_of es) place ≡ Some p = c.place_near-place.ensures.place in
+    let past : is_there (contexts_of es) p ≡ false → length (keys_of es) ≤ place = c.place_near-place.ensures.past in
     let found = c.get_index_mut.ensures.found in
-    let there : (r : MutBor Record) → o ≡ Some r → is_there (kept es) p ≡ true = λ r e. there_below es p place at past (found.0 (ap is_some e)) in
+    let there : (r : MutBor Record) → o ≡ Some r → is_there (contexts_of es) p ≡ true = λ r e. there_below es p place at past (found.0 (ap is_some e)) in
     let entry : (r : MutBor Record) → o ≡ Some r → slice_get es place ≡ Some (p, r.now) =
     λ r e. entry_at es place p (at (there r e)) r.now (sym (ap option_copied_mut e) ∙ c.get_index_mut.ensures.value) in
-    let written : (r : MutBor Record) → o ≡ Some r → (w : Record) → kept (with_value_at m place w).entries ≡ with_fields c.args.self.now p w.fields =
+    let written : (r : MutBor Record) → o ≡ Some r → (w : Record) → contexts_of (with_value_at m place w).entries ≡ with_fields c.args.self.now p w.fields =
     λ r e w. kept_with es (with_value_at m place w).entries p w (updates-with_value_at m place w path_eq_equiv c.get_index_mut.ensures.unique p r.now (entry r e)).0 (keys-with_value_at m place w)
     ∙ ap (λ t. with_fields t p w.fields) c.self.view_is in (
       same_lent o _ _ _ _ written c.self.view_is,
@@ -48,7 +48,7 @@ returns c =
         writes_back = tt;
         none = subst (λ (t : Contexts). IsNone o ↔ (is_there t p ≡ false)) c.self.view_is (none_past es p place at past o found);
         some = λ shape. subst (λ (t : Contexts). IfSome o (λ r. r.now.fields ≡ shown_fields shape t.shots p)) c.self.view_is
-            (if_found o (λ r. r.now.fields ≡ shown_fields shape (kept es).shots p) (λ r e. sym (shown_record es p r.now (lookup_from_place path_eq_equiv es place p r.now c.get_index_mut.ensures.unique (entry r e)) shape)));
+            (if_found o (λ r. r.now.fields ≡ shown_fields shape (contexts_of es).shots p) (λ r e. sym (shown_record es p r.now (lookup_from_place path_eq_equiv es place p r.now c.get_index_mut.ensures.unique (entry r e)) shape)));
         put = λ shape fields. subst (λ (t : Contexts). is_there t p ≡ true → tree_of shape (with_fields t p fields) ≡ put (tree_of shape t) p fields) c.self.view_is (put_fields shape es p fields);
       },
     )

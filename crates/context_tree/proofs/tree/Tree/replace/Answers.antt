@@ -4,7 +4,7 @@ use Rattle.wave_base.specs.declared.record.Record.{Record}
 use Rattle.wave_base.specs.Paths.{path_eq}
 use Rattle.wave_base.specs.Starts.{shown_fields}
 use Rattle.wave_base.specs.Tree.{put}
-use Rattle.context_tree.specs.Contexts.{Contexts, HasField, kept, tree_of, with_field}
+use Rattle.context_tree.specs.Contexts.{Contexts, HasField, contexts_of, tree_of, with_field}
 use Rattle.context_tree.proofs.KeptLemmas.{shown_record, has_field, no_field, tree_changed}
 use Rattle.context_tree.proofs.tree.Tree.replace.Goals as goal
 
@@ -28,10 +28,10 @@ returns-clause-set c =
     let w : Record = record { fields = c.set.new.self; children = c.in-Some.record.now.children } in
     let written = c.get_mut.follows.holds w in
     let here : IsSome (lookup (path_eq c.args.path.now) es) = ap is_some (sym c.in-Some.ensures.value) in
-    let set : c.set.new.self ≡ slice_set (shown_fields shape (kept es).shots c.args.path.now) c.args.field c.args.value =
+    let set : c.set.new.self ≡ slice_set (shown_fields shape (contexts_of es).shots c.args.path.now) c.args.field c.args.value =
     c.set.ensures.put ∙ ap (λ fs. slice_set fs c.args.field c.args.value) (sym (shown_record es c.args.path.now c.in-Some.record.now (sym c.in-Some.ensures.value) shape)) in
     tree_changed shape es (c.get_mut.follows.lender w).entries c.args.path.now w (written.3 here).0 here
-    ∙ ap (put (tree_of shape (kept es)) c.args.path.now) set
+    ∙ ap (put (tree_of shape (contexts_of es)) c.args.path.now) set
     ∙ ap (λ t. with_field (tree_of shape t) c.args.path.now c.args.field c.args.value) c.self.view_is
 
 pub returns-clause-joined : goal.returns-clause-joined

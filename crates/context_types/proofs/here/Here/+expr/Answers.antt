@@ -9,7 +9,7 @@ use Rattle.type_rules.specs.declared.error.TypeError.TheVariants.{ArgCount}
 use Rattle.type_rules.specs.declared.meant.Callee.TheVariants as callee
 use Rattle.type_rules.specs.Demands.{first_wrong, Fails}
 use Rattle.type_rules.specs.Known.{method_named}
-use Rattle.type_rules.specs.Here.{called}
+use Rattle.type_rules.specs.Here.{callee_named}
 use Rattle.type_rules.specs.Exprs.{count, demands, of_kind, typed, args_demands, call_demands, child_demands, call_gives, call_tree, child_gives, child_tree, resolve, resolve_all}
 use Rattle.type_rules.proofs.First.{fails_at, fails_past, fails_same, fails_front, fails_behind, told_past}
 use Rattle.type_tables.proofs.Walks.{differ}
@@ -76,7 +76,7 @@ call-returns-in_ok-args-in-Some-Builtin t c =
     let h = here_of c.args.self.now in
     let given = exprs_of (map expr_tree c.args.args.now) in
     let row = c.in-Some-Builtin.row in
-    let found : called h c.args.name.now ≡ Some (callee.Builtin row) = sym c.called.ensures.found ∙ c.in-Some-Builtin.is ∙ ap Some c.in-Some-Builtin.field-0-is in
+    let found : callee_named h c.args.name.now ≡ Some (callee.Builtin row) = sym c.callee_named.ensures.found ∙ c.in-Some-Builtin.is ∙ ap Some c.in-Some-Builtin.field-0-is in
     let made = c.in_ok-args-in-Some-Builtin.ensures in (
       call_same h c.args.at c.args.name.now given (callee.Builtin row) found refl ∙ ap (λ ks. first_wrong (args_asks h c.args.at ks given)) (sym c.takes-len.ensures.kinds) ∙ made.0,
       builtin_called h c.args.at c.args.name.now given row c.gives.result c.in_ok-args-in-Some-Builtin.args c.new.result found made.1 c.gives.ensures c.new.ensures.gives c.new.ensures.tree,
@@ -87,7 +87,7 @@ call-returns-in_ok-args-in-Some-Method t c =
     let h = here_of c.args.self.now in
     let given = exprs_of (map expr_tree c.args.args.now) in
     let m = c.in-Some-Method.method in
-    let found : called h c.args.name.now ≡ Some (callee.Method m) = sym c.called.ensures.found ∙ c.in-Some-Method.is ∙ ap Some c.in-Some-Method.field-0-is in
+    let found : callee_named h c.args.name.now ≡ Some (callee.Method m) = sym c.callee_named.ensures.found ∙ c.in-Some-Method.is ∙ ap Some c.in-Some-Method.field-0-is in
     let made = c.in_ok-args-in-Some-Method.ensures in
     let params = c.as_slice.ensures ∙ ap (λ s. s.params) c.signature-signature.ensures in (
       call_same h c.args.at c.args.name.now given (callee.Method m) found (lt-ltb m c.args.self.now.function c.if-method-self.false) ∙ ap (λ ks. first_wrong (args_asks h c.args.at ks given)) (sym params) ∙ made.0,
@@ -224,7 +224,7 @@ expr-returns-in_ok-called-in-Call t c =
     let name = c.in-Call.name in
     let given = exprs_of (map expr_tree c.deref-in-Call.result.now) in
     answers_as h _ (e.Call at name given) _ (ap (λ n. node_tree n at) c.in-Call.is ∙ call_node name c.in-Call.args at ∙ ap (λ l. e.Call at name (exprs_of (map expr_tree l))) (sym c.deref-in-Call.ensures.value))
-    (worth h (call_demands h at name given) at (call_gives h name) (call_tree at (called h name) (resolve_all h given)) c.in_ok-called-in-Call.called c.worth.result c.in_ok-called-in-Call.ensures.0 c.in_ok-called-in-Call.ensures.1 c.worth.ensures)
+    (worth h (call_demands h at name given) at (call_gives h name) (call_tree at (callee_named h name) (resolve_all h given)) c.in_ok-called-in-Call.called c.worth.result c.in_ok-called-in-Call.ensures.0 c.in_ok-called-in-Call.ensures.1 c.worth.ensures)
 
 pub expr-returns-in_ok-called-in-ChildCall : goal.expr-returns-in_ok-called-in-ChildCall
 expr-returns-in_ok-called-in-ChildCall t c =

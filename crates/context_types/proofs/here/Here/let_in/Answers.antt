@@ -2,7 +2,7 @@ use Rattle.std.proofs.Common.{sym, ap, ◌∙◌}
 use Rattle.std.proofs.lemmas.Result.{err_from_is_err_and}
 use Rattle.mace_ast.specs.Exprs.{expr_tree}
 use Rattle.resolved_service.specs.Steps as r
-use Rattle.type_rules.specs.Here.{declared}
+use Rattle.type_rules.specs.Here.{with_local}
 use Rattle.type_rules.specs.Exprs.{demands}
 use Rattle.type_rules.specs.Stmts.{kind_or_int, local_asks}
 use Rattle.type_rules.proofs.First.{holds_both}
@@ -26,7 +26,7 @@ returns c =
     let value = c.in_ok-value.ensures.1 in (
       holds_both (demands h (expr_tree c.args.value.now)) (local_asks h c.args.name.now 1) c.in_ok-value.ensures.0 c.in_ok-slot.ensures.0,
       record {
-        here = ap (λ k. declared h c.args.name.now.text (kind_or_int k)) value.kind ∙ sym c.in_ok-declare.ensures;
+        here = ap (λ k. with_local h c.args.name.now.text (kind_or_int k)) value.kind ∙ sym c.in_ok-declare.ensures;
         step = (λ i. r.SetLocal c.args.at (sym c.in_ok-slot.ensures.1 i) (value.tree i));
       },
     )

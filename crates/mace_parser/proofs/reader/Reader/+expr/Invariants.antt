@@ -13,11 +13,11 @@ decreases-unary l = 40 * l.self.depth + 8
 abbrev pub decreases-expr : goal.decreases-expr
 decreases-expr l = 40 * l.self.depth + 24
 
-abbrev pub decreases-parenthesized : goal.decreases-parenthesized
-decreases-parenthesized l = 40 * l.self.depth + 25
+abbrev pub decreases-parenthesized_expr : goal.decreases-parenthesized_expr
+decreases-parenthesized_expr l = 40 * l.self.depth + 25
 
-abbrev pub decreases-bracketed : goal.decreases-bracketed
-decreases-bracketed l = 40 * l.self.depth + 25
+abbrev pub decreases-bracketed_expr : goal.decreases-bracketed_expr
+decreases-bracketed_expr l = 40 * l.self.depth + 25
 
 abbrev pub decreases-next_expr : goal.decreases-next_expr
 decreases-next_expr l = 40 * l.self.depth + 25
@@ -43,8 +43,8 @@ decreases-named_expr l = 40 * l.self.depth + 29
 abbrev pub decreases-primary : goal.decreases-primary
 decreases-primary l = 40 * l.self.depth + 30
 
-abbrev pub decreases-signed : goal.decreases-signed
-decreases-signed l = 40 * l.self.depth + 30
+abbrev pub decreases-signed_expr : goal.decreases-signed_expr
+decreases-signed_expr l = 40 * l.self.depth + 30
 
 abbrev pub decreases-operand : goal.decreases-operand
 decreases-operand l = 40 * l.self.depth + 9 + 3 * tighter_ones l.level

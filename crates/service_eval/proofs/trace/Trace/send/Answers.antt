@@ -4,7 +4,7 @@ use Rattle.service_eval.proofs.WorldLemmas.{refuses, sends_no_more, sends_one_mo
 use Rattle.service_eval.proofs.trace.Trace.send.Goals as goal
 
 pub returns-then-len-ge-MESSAGES-clause-changes : goal.returns-then-len-ge-MESSAGES-clause-changes
-returns-then-len-ge-MESSAGES-clause-changes c = λ tree. refuses _ _ _ _ _ (sends_no_more _ _ _ (omega (arith, c.len.ensures, c.if-len-ge-MESSAGES.true))) c.trapped.ensures
+returns-then-len-ge-MESSAGES-clause-changes c = λ tree. refuses _ _ _ _ _ (sends_no_more _ _ _ (omega (arith, c.len.ensures, c.if-len-ge-MESSAGES.true))) c.trap_at.ensures
 
 pub returns-clause-changes : goal.returns-clause-changes
 returns-clause-changes c = λ tree.

@@ -7,10 +7,10 @@ suc_is : (n : ℕ) → suc n ≡ n + 1
 suc_is n = omega arith
 
 pub returns-then-self-eq-GENERATION-clause-changes : goal.returns-then-self-eq-GENERATION-clause-changes
-returns-then-self-eq-GENERATION-clause-changes c = λ tree. refuses _ _ _ _ _ (last_generation _ _ _ c.if-self-eq-GENERATION.true) c.trapped.ensures
+returns-then-self-eq-GENERATION-clause-changes c = λ tree. refuses _ _ _ _ _ (last_generation _ _ _ c.if-self-eq-GENERATION.true) c.trap_at.ensures
 
 pub returns-then-len-ge-SPAWNS-clause-changes : goal.returns-then-len-ge-SPAWNS-clause-changes
-returns-then-len-ge-SPAWNS-clause-changes c = λ tree. refuses _ _ _ _ _ (spawns_no_more _ _ _ c.if-self-eq-GENERATION.false (omega (arith, c.len.ensures, c.if-len-ge-SPAWNS.true))) c.trapped-then-len-ge-SPAWNS.ensures
+returns-then-len-ge-SPAWNS-clause-changes c = λ tree. refuses _ _ _ _ _ (spawns_no_more _ _ _ c.if-self-eq-GENERATION.false (omega (arith, c.len.ensures, c.if-len-ge-SPAWNS.true))) c.trap_at-then-len-ge-SPAWNS.ensures
 
 pub returns-clause-changes : goal.returns-clause-changes
 returns-clause-changes c = λ tree.

@@ -1,6 +1,6 @@
 use Rattle.std.proofs.Common.{ap, subst, ◌∙◌}
 use Rattle.wave_base.specs.declared.outcome.Outcome.TheVariants.{Reply as Replied}
-use Rattle.service_verify.specs.Steps.{on_top, finished}
+use Rattle.service_verify.specs.Steps.{on_top, end_move}
 use Rattle.service_vm.specs.Boxes.{box_of}
 use Rattle.service_vm.specs.inner.Acts.{Flows}
 use Rattle.service_vm.specs.Frames.{Frames}
@@ -21,7 +21,7 @@ returns-in-Back-clause-stopped c m fields h = subst (λ f. Flows m c.args.at f c
 pub returns-in-Reply-clause-stopped : goal.returns-in-Reply-clause-stopped
 returns-in-Reply-clause-stopped c m fields h =
     (subst (λ f. Flows m c.args.at f c.args.self.now fields) c.in-Reply.is h).1
-    ∙ ap (λ (s : Frames). on_top s.top.stack (λ x rest. finished (Replied x) (box_of c.args.self.now) fields)) c.pop-value.ensures
+    ∙ ap (λ (s : Frames). on_top s.top.stack (λ x rest. end_move (Replied x) (box_of c.args.self.now) fields)) c.pop-value.ensures
     ∙ c.finish.ensures.finished fields
 
 pub returns-in-End-clause-stopped : goal.returns-in-End-clause-stopped

@@ -6,8 +6,8 @@ use Rattle.wave_board.proofs.board.Board.fresh.Goals as goal
 pub returns-then-not-is_due : goal.returns-then-not-is_due
 returns-then-not-is_due c = λ o s h due. clash c.is_due.result ((c.is_due.ensures o s h).1 due) c.if-not-is_due.true
 
-pub shown-requires : goal.shown-requires
-shown-requires c =
+pub shown_lines-requires : goal.shown_lines-requires
+shown_lines-requires c =
     let t = c.requires in
     let done = done_is c.args.self.now t.origin t.state t.at in
     let less = t.committed in

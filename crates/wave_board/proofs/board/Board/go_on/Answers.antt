@@ -5,14 +5,14 @@ use Rattle.wave_board.proofs.Choosing.{took_by}
 use Rattle.wave_board.proofs.Standing.{stands_of}
 use Rattle.wave_board.proofs.board.Board.go_on.Goals as goal
 
-pub returns-then-finished-clause-took : goal.returns-then-finished-clause-took
-returns-then-finished-clause-took c = (c.requires.goes_on, (λ o s h. (c.if-finished.ensures o.start.now s (stands_of c.args.self.now o s h)).0 refl), refl)
+pub returns-then-is_finished-clause-took : goal.returns-then-is_finished-clause-took
+returns-then-is_finished-clause-took c = (c.requires.goes_on, (λ o s h. (c.if-is_finished.ensures o.start.now s (stands_of c.args.self.now o s h)).0 refl), refl)
 
 pub returns-in-None-clause-took : goal.returns-in-None-clause-took
 returns-in-None-clause-took c =
     let b = c.args.self.now in (
       c.requires.goes_on,
-      (λ o s h finished. clash _ ((c.if-finished.ensures o.start.now s (stands_of b o s h)).1 finished) refl),
+      (λ o s h finished. clash _ ((c.if-is_finished.ensures o.start.now s (stands_of b o s h)).1 finished) refl),
       subst (Chooses b c.args.worker) c.in-None.is c.choice.ensures,
       refl,
     )

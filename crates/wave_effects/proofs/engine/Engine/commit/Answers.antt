@@ -22,8 +22,8 @@ unwrap-result-requires c =
     let on = c.requires.enabled.3 in
     ap is_some c.commit_next.ensures.gives ∙ ap (λ o. is_some (named m.commits o)) (commit_ready c.states_are_known.ensures m c.requires.enabled.0 c.requires.enabled.1 c.requires.enabled.2 on.start on.state on.next on.stands on.enabled)
 
-pub created-made-requires-clause-tickets : goal.created-made-requires-clause-tickets
-created-made-requires-clause-tickets c =
+pub add_created-made-requires-clause-tickets : goal.add_created-made-requires-clause-tickets
+add_created-made-requires-clause-tickets c =
     let m = kept_of c.args.self.now in
     let on = c.requires.enabled.3 in
     let w = c.requires.enabled.0 in
@@ -32,8 +32,8 @@ created-made-requires-clause-tickets c =
     commit_room c.states_are_known.ensures m w host t on.start on.state on.next on.stands on.enabled c.heads_are_known.ensures (length c.args.created)
     (ap length (c.requires.created (the_commit c.states_are_known.ensures m w host t on.start on.state on.next on.stands on.enabled).result (commit_ready c.states_are_known.ensures m w host t on.start on.state on.next on.stands on.enabled)))
 
-pub created-made-requires-clause-order : goal.created-made-requires-clause-order
-created-made-requires-clause-order c =
+pub add_created-made-requires-clause-order : goal.add_created-made-requires-clause-order
+add_created-made-requires-clause-order c =
     let m = kept_of c.args.self.now in
     let on = c.requires.enabled.3 in
     commit_order c.states_are_known.ensures m c.requires.enabled.0 c.requires.enabled.1 c.requires.enabled.2 on.start on.state on.next on.stands on.enabled
@@ -43,7 +43,7 @@ begin_batch-requires-clause-order c =
     let m = kept_of c.args.self.now in
     let on = c.requires.enabled.3 in
     let order = commit_order c.states_are_known.ensures m c.requires.enabled.0 c.requires.enabled.1 c.requires.enabled.2 on.start on.state on.next on.stands on.enabled in
-    omega (arith, order, c.created-made.ensures.counts.0, c.created-made.ensures.counts.1)
+    omega (arith, order, c.add_created-made.ensures.counts.0, c.add_created-made.ensures.counts.1)
 
 same_some : {X : Type 0} (a b : X) (o : Option X) → o ≡ Some a → o ≡ Some b → a ≡ b
 same_some a b o e f = cc
@@ -66,12 +66,12 @@ returns-clause-takes c = λ w host t.
       results = c.commit_next.ensures.results;
     } in
     let does : DoesOne m.head c.begin_batch.new.head (requests c.args.created) = record {
-      fold = λ admitted n. c.begin_batch.ensures.fold admitted (n ∙ sym c.created-made.ensures.counts.0) ∙ c.created-made.ensures.fold admitted n;
-      first = c.begin_batch.ensures.first ∙ c.created-made.ensures.first;
-      admitted = c.begin_batch.ensures.counts.0 ∙ c.created-made.ensures.counts.0;
-      done = c.begin_batch.ensures.counts.1 ∙ c.created-made.ensures.counts.1;
+      fold = λ admitted n. c.begin_batch.ensures.fold admitted (n ∙ sym c.add_created-made.ensures.counts.0) ∙ c.add_created-made.ensures.fold admitted n;
+      first = c.begin_batch.ensures.first ∙ c.add_created-made.ensures.first;
+      admitted = c.begin_batch.ensures.counts.0 ∙ c.add_created-made.ensures.counts.0;
+      done = c.begin_batch.ensures.counts.1 ∙ c.add_created-made.ensures.counts.1;
     } in
-    commit_pushed c.states_are_known.ensures m w host t (record { result = c.unwrap-result.result.result; made = c.created-made.result }) (requests c.args.created) c.begin_batch.new.head c.commit_next.new.self c.push_reserved.new.self.items r created takes does result c.created-made.ensures.tickets c.push_reserved.ensures.items
+    commit_pushed c.states_are_known.ensures m w host t (record { result = c.unwrap-result.result.result; made = c.add_created-made.result }) (requests c.args.created) c.begin_batch.new.head c.commit_next.new.self c.push_reserved.new.self.items r created takes does result c.add_created-made.ensures.tickets c.push_reserved.ensures.items
 
 pub returns-clause-moves : goal.returns-clause-moves
 returns-clause-moves c = λ w host t. moved_none (kept_of c.args.self.now) _ (record { worker = w; host = host; act = Commit t }) refl refl refl refl

@@ -42,8 +42,8 @@ entry_mut-entry-requires c =
     let at = start_placed c.states_are_known.ensures (kept_of c.args.self.now) c.args.ticket.0 c.args.path c.args.worker.0 c.args.host.0 c.requires.enabled in
     at.there c.index_mut-store.result.now (slice_get_read c.args.self.now.stores.items _ c.args.host.0 c.index_mut-store.result.now refl at.host_in c.index_mut-store.ensures.value)
 
-pub taken-body-requires : goal.taken-body-requires
-taken-body-requires c =
+pub take_record-body-requires : goal.take_record-body-requires
+take_record-body-requires c =
     let at = start_placed c.states_are_known.ensures (kept_of c.args.self.now) c.args.ticket.0 c.args.path c.args.worker.0 c.args.host.0 c.requires.enabled in
     at.home c.index_mut-store.result.now c.entry_mut-entry.result.now (slice_get_read c.args.self.now.stores.items _ c.args.host.0 c.index_mut-store.result.now refl at.host_in c.index_mut-store.ensures.value) c.entry_mut-entry.ensures.value
 
@@ -64,9 +64,9 @@ returns-clause-takes c =
     let there : slice_get m.cells i ≡ Some c.index_mut-cell.result.now = slice_get_read m.cells _ i c.index_mut-cell.result.now refl within c.index_mut-cell.ensures.value in
     let here : slice_get m.stores c.args.host.0 ≡ Some c.index_mut-store.result.now = slice_get_read m.stores _ c.args.host.0 c.index_mut-store.result.now refl at.host_in c.index_mut-store.ensures.value in
     let runs : RunsIt c.index_mut-cell.result.now c.start.new.self c.args.path = record { desk = c.start.ensures.desk; actor = c.start.ensures.away } in
-    let writes : Writes c.index_mut-store.result.now (with_entry c.index_mut-store.result.now c.args.path c.taken-body.new.entry) c.args.path c.taken-body.new.entry = record { store = refl; gone = refl } in
-    start_taken c.states_are_known.ensures m t c.args.path c.args.worker.0 c.args.host.0 i c.index_mut-cell.result.now c.start.new.self c.index_mut-store.result.now (with_entry c.index_mut-store.result.now c.args.path c.taken-body.new.entry)
-    c.entry_mut-entry.result.now c.taken-body.new.entry c.args.copy c.taken-body.result (record { ticket = c.args.ticket; path = c.args.path }) place refl there here c.entry_mut-entry.ensures.value c.requires.part c.taken-body.ensures runs writes refl refl
+    let writes : Writes c.index_mut-store.result.now (with_entry c.index_mut-store.result.now c.args.path c.take_record-body.new.entry) c.args.path c.take_record-body.new.entry = record { store = refl; gone = refl } in
+    start_taken c.states_are_known.ensures m t c.args.path c.args.worker.0 c.args.host.0 i c.index_mut-cell.result.now c.start.new.self c.index_mut-store.result.now (with_entry c.index_mut-store.result.now c.args.path c.take_record-body.new.entry)
+    c.entry_mut-entry.result.now c.take_record-body.new.entry c.args.copy c.take_record-body.result (record { ticket = c.args.ticket; path = c.args.path }) place refl there here c.entry_mut-entry.ensures.value c.requires.part c.take_record-body.ensures runs writes refl refl
 
 pub returns-clause-leases : goal.returns-clause-leases
 returns-clause-leases c =
@@ -78,9 +78,9 @@ returns-clause-leases c =
     let within : i < length m.cells = omega (arith, at.low, at.within) in
     let there : slice_get m.cells i ≡ Some c.index_mut-cell.result.now = slice_get_read m.cells _ i c.index_mut-cell.result.now refl within c.index_mut-cell.ensures.value in
     let here : slice_get m.stores c.args.host.0 ≡ Some c.index_mut-store.result.now = slice_get_read m.stores _ c.args.host.0 c.index_mut-store.result.now refl at.host_in c.index_mut-store.ensures.value in
-    start_leases c.states_are_known.ensures m t c.args.path c.args.worker.0 c.args.host.0 i c.index_mut-cell.result.now c.start.new.self c.index_mut-store.result.now (with_entry c.index_mut-store.result.now c.args.path c.taken-body.new.entry)
-    c.entry_mut-entry.result.now c.taken-body.new.entry c.args.copy c.taken-body.result (record { ticket = c.args.ticket; path = c.args.path }) place refl there here c.entry_mut-entry.ensures.value c.requires.part c.taken-body.ensures
-    (record { worker = c.args.worker; ticket = c.args.ticket; path = c.args.path; actor = c.unwrap-actor.result; body = c.taken-body.result }) refl refl (sym c.start.ensures.taken ∙ c.unwrap-actor.ensures) refl
+    start_leases c.states_are_known.ensures m t c.args.path c.args.worker.0 c.args.host.0 i c.index_mut-cell.result.now c.start.new.self c.index_mut-store.result.now (with_entry c.index_mut-store.result.now c.args.path c.take_record-body.new.entry)
+    c.entry_mut-entry.result.now c.take_record-body.new.entry c.args.copy c.take_record-body.result (record { ticket = c.args.ticket; path = c.args.path }) place refl there here c.entry_mut-entry.ensures.value c.requires.part c.take_record-body.ensures
+    (record { worker = c.args.worker; ticket = c.args.ticket; path = c.args.path; actor = c.unwrap-actor.result; body = c.take_record-body.result }) refl refl (sym c.start.ensures.taken ∙ c.unwrap-actor.ensures) refl
 
 pub returns-clause-may_run : goal.returns-clause-may_run
 returns-clause-may_run c =
@@ -93,10 +93,10 @@ returns-clause-may_run c =
     let there : slice_get m.cells i ≡ Some c.index_mut-cell.result.now = slice_get_read m.cells _ i c.index_mut-cell.result.now refl within c.index_mut-cell.ensures.value in
     let here : slice_get m.stores c.args.host.0 ≡ Some c.index_mut-store.result.now = slice_get_read m.stores _ c.args.host.0 c.index_mut-store.result.now refl at.host_in c.index_mut-store.ensures.value in
     let on = c.requires.enabled in
-    let lease : Lease = record { worker = c.args.worker; ticket = c.args.ticket; path = c.args.path; actor = c.unwrap-actor.result; body = c.taken-body.result } in
+    let lease : Lease = record { worker = c.args.worker; ticket = c.args.ticket; path = c.args.path; actor = c.unwrap-actor.result; body = c.take_record-body.result } in
     leased_may_run c.segments_are_known.ensures m on.start on.state on.next (record { worker = c.args.worker.0; host = c.args.host.0; act = Start t c.args.path }) on.stands on.enabled lease
-    (start_leases c.states_are_known.ensures m t c.args.path c.args.worker.0 c.args.host.0 i c.index_mut-cell.result.now c.start.new.self c.index_mut-store.result.now (with_entry c.index_mut-store.result.now c.args.path c.taken-body.new.entry)
-    c.entry_mut-entry.result.now c.taken-body.new.entry c.args.copy c.taken-body.result (record { ticket = c.args.ticket; path = c.args.path }) place refl there here c.entry_mut-entry.ensures.value c.requires.part c.taken-body.ensures
+    (start_leases c.states_are_known.ensures m t c.args.path c.args.worker.0 c.args.host.0 i c.index_mut-cell.result.now c.start.new.self c.index_mut-store.result.now (with_entry c.index_mut-store.result.now c.args.path c.take_record-body.new.entry)
+    c.entry_mut-entry.result.now c.take_record-body.new.entry c.args.copy c.take_record-body.result (record { ticket = c.args.ticket; path = c.args.path }) place refl there here c.entry_mut-entry.ensures.value c.requires.part c.take_record-body.ensures
     lease refl refl (sym c.start.ensures.taken ∙ c.unwrap-actor.ensures) refl on.start on.state on.next on.stands on.enabled)
 
 pub returns-clause-moves : goal.returns-clause-moves
@@ -111,8 +111,8 @@ returns-clause-moves c =
     let there : slice_get m.cells i ≡ Some cell = slice_get_read m.cells _ i cell refl within c.index_mut-cell.ensures.value in
     let store = c.index_mut-store.result.now in
     let here : slice_get m.stores c.args.host.0 ≡ Some store = slice_get_read m.stores _ c.args.host.0 store refl at.host_in c.index_mut-store.ensures.value in
-    let next = with_entry store c.args.path c.taken-body.new.entry in
-    let writes : Writes store next c.args.path c.taken-body.new.entry = record { store = refl; gone = refl } in
+    let next = with_entry store c.args.path c.take_record-body.new.entry in
+    let writes : Writes store next c.args.path c.take_record-body.new.entry = record { store = refl; gone = refl } in
     let same = ap (λ (o : Sending). length o.mails) c.start.ensures.outbox in
     moved_both m _ (record { worker = c.args.worker.0; host = c.args.host.0; act = Start t c.args.path }) 0 i cell c.start.new.self place refl there refl refl
-    (omega (arith, same)) store next here refl (written_apart store next c.args.path c.taken-body.new.entry writes) (λ away away'. refl)
+    (omega (arith, same)) store next here refl (written_apart store next c.args.path c.take_record-body.new.entry writes) (λ away away'. refl)

@@ -4,7 +4,7 @@ use Rattle.wave_states.specs.Labels.{Label, path_of, ticket_of}
 use Rattle.wave_effects.specs.declared.engine.Engine.{Engine}
 use Rattle.wave_effects.specs.Keeping.{kept_of, place_in}
 use Rattle.wave_effects.specs.Running.{Stops, stop_of}
-use Rattle.wave_effects.specs.Apart.{Moves, grown}
+use Rattle.wave_effects.specs.Apart.{Moves, new_cells}
 use Rattle.wave_machine.specs.inner.Index.{HasRoom, KeepsMails, Sees, held_at, held_by}
 use Rattle.wave_machine.proofs.Asked.{listed_same}
 use Rattle.wave_effects.proofs.Halting.{cell_at}
@@ -45,7 +45,7 @@ update-requires c =
           moves = moves;
           mails = subst (λ (z : Label). KeepsMails m m' z) (sym is) (mails_stopped c.states_are_known.ensures m m' lease c.args.pause h on c.in-Ok.ensures.enabled c.in-Ok.ensures.stops);
           numbered = numbered_stood c.states_are_known.ensures m (record { start = on.start; state = on.state; stands = on.stands });
-          grows = λ one. absurd (let none : grown l.act ≡ 0 = ap (λ (z : Label). grown z.act) is in omega (arith, one, none));
+          grows = λ one. absurd (let none : new_cells l.act ≡ 0 = ap (λ (z : Label). new_cells z.act) is in omega (arith, one, none));
           sees = sees;
         };
         index = c.requires.listed.index;
