@@ -27,9 +27,9 @@ use Rattle.wave_labels.specs.declared.label.Label.{Label}
 use Rattle.wave_labels.specs.Labels.{act_of, label_of}
 use Rattle.wave_drives.specs.declared.rules.PickRule.{PickRule}
 use Rattle.wave_drives.specs.declared.rules.PickRule.TheVariants as rule
-use Rattle.wave_effects.specs.Kinds.{is_move, kind_of}
+use Rattle.wave_effects.specs.Kinds.{is_move, job_kind}
 use Rattle.wave_effects.specs.Machines.{IsFinishedRun, IsReached, TheState}
-use Rattle.wave_drives.specs.Rules.{number_of, rule_of}
+use Rattle.wave_drives.specs.Rules.{rule_number, rule_of}
 use Rattle.wave_drives.specs.Measured.{DrivesAreMeasured}
 use Rattle.wave_effects.specs.Lengths.{FinishedRunsAreMeasured, IsMeasured}
 use Rattle.due_parts.specs.Runs.{ComesTo, IsDriveBy, IsRunBy, IsRunOf, nearest_workers, rule_by}
@@ -95,12 +95,12 @@ picks : TheRulesPick → (r : PickRule) → Picks (rule_of r)
 picks k (rule.Seed x) = k.by_seed
 picks k rule.Oldest = k.by_oldest
 picks k rule.Newest = k.by_newest
-picks k rule.Movers = k.by_movers (λ line. is_move (kind_of line))
+picks k rule.Movers = k.by_movers (λ line. is_move (job_kind line))
 picks k rule.MailLast = k.by_mail_last
 
 module _ (rules : TheRulesPick) (drives : PlansDrive) (plan : Plan) (start : Start) (fits : Fits plan) (begins : FitsStart plan start) where
-  abbrev drive : (r : PickRule) → HasDrive (plan_kind plan.program plan.script.hosts) plan.workers (begin_in plan start) plan.script.batches (rule_of r) (number_of r)
-  drive r = drives plan start fits begins (rule_of r) (picks rules r) (number_of r)
+  abbrev drive : (r : PickRule) → HasDrive (plan_kind plan.program plan.script.hosts) plan.workers (begin_in plan start) plan.script.batches (rule_of r) (rule_number r)
+  drive r = drives plan start fits begins (rule_of r) (picks rules r) (rule_number r)
 
   -- the drive of a rule is a finished run
   pub drive_finished : (r : PickRule) (labels : List theory.Label) → IsDriveBy r plan start labels → IsFinishedRun plan start labels

@@ -16,7 +16,7 @@ use Rattle.wave_drives.specs.declared.rules.PickRule.{PickRule}
 use Rattle.wave_drives.specs.declared.rules.PickRule.TheVariants.{Seed, Oldest, Newest, Movers, MailLast}
 use Rattle.wave_effects.specs.Lengths.{IsMeasured}
 use Rattle.wave_effects.specs.Machines.{IsFinishedRun, IsReached, TheState}
-use Rattle.wave_drives.specs.Rules.{number_of, rule_of}
+use Rattle.wave_drives.specs.Rules.{rule_number, rule_of}
 
 -- a plan has 1 to 16 workers, and another number is taken for the nearest of these
 abbrev pub nearest_workers : ℕ → ℕ
@@ -40,7 +40,7 @@ pub record ComesTo (plan : Plan) (start : Start) (labels : List Label) (done : F
 -- they are what the rule picks, until nothing is left
 abbrev pub IsDriveBy : PickRule → Plan → Start → List Label → Type 0
 IsDriveBy rule plan start labels =
-    runs.IsDrive (plan_actors plan.program) plan.workers plan.script.hosts (rule_of rule) (number_of rule)
+    runs.IsDrive (plan_actors plan.program) plan.workers plan.script.hosts (rule_of rule) (rule_number rule)
     (start_state (begin_in plan start) plan.script.batches) labels
 
 abbrev pub IsRunBy : Option Schedule → Plan → Start → List Label → Type 0

@@ -5,7 +5,7 @@ ghost use Rattle.label_log.specs.Logs.{path_of};
 ghost use Rattle.label_log.specs.inner.Keeping.{HasRoom, IsKept, IsNumber, kept_labels, ready_in};
 
 use crate::entry::Entry;
-use crate::numbers::{number_of, path_at};
+use crate::numbers::{path_at, path_number};
 use indexmap::IndexSet;
 use std::alloc::Global;
 use wave_base::{OutOfMemory, Path};
@@ -74,7 +74,7 @@ impl Kept {
         ensures room { IfOk result (HasRoom self.new) }
         ensures ready { IfOk result (λ room. ready_in self.new room ≡ Some path.now) }
     {
-        match self.number_of(path)? {
+        match self.number_for(path)? {
             Some(number) => {
                 self.entries.reserve(1)?;
                 Ok(Room::Numbered(number))
@@ -87,7 +87,7 @@ impl Kept {
     }
 
     // The number of a path; none where labels are kept with their paths from now on.
-    fn number_of(&mut self, path: &Path) -> Result<Option<u32>, OutOfMemory>
+    fn number_for(&mut self, path: &Path) -> Result<Option<u32>, OutOfMemory>
         requires { IsKept self.old }
         ensures kept { IsKept self.new }
         ensures labels { kept_labels self.new ≡ kept_labels self.old }
@@ -96,7 +96,7 @@ impl Kept {
         if !self.whole.is_empty() {
             return Ok(None);
         }
-        let number = number_of(&mut self.paths, last_number(&self.entries), path)?;
+        let number = path_number(&mut self.paths, last_number(&self.entries), path)?;
         Ok(u32::try_from(number).ok())
     }
 

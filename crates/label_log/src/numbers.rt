@@ -8,7 +8,7 @@ use wave_base::{OutOfMemory, Path};
 
 /// The number of a path, which it gets where it has none. The path whose number is `near` is asked first, since most labels name the path
 /// of the one before; it costs no look-up.
-pub(crate) fn number_of(
+pub(crate) fn path_number(
     paths: &mut IndexSet<Path>,
     near: u32,
     path: &Path,

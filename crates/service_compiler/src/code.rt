@@ -68,7 +68,7 @@ impl Code {
     }
 
     /// The number of a text, or how many there are where it isn't among them: the number that it will have.
-    pub fn number_of(&self, text: &Txt) -> u32
+    pub fn text_number(&self, text: &Txt) -> u32
         ensures { result ≡ place_of_text self.now.texts text.now }
     {
         self.texts.place(text.bytes())

@@ -19,7 +19,7 @@ fn emit_literal(code: &mut Code, value: &Value, at: Span) -> Result<(), OutOfMem
         Value::Int(n) => code.put(Instr::PushInt(*n), at),
         Value::Bool(b) => code.put(Instr::PushBool(*b), at),
         Value::Str(text) => {
-            let number = code.number_of(text);
+            let number = code.text_number(text);
             code.put_use(text, Instr::PushText(number), at)
         }
         Value::Map(_) => code.put(Instr::PushEmpty, at),

@@ -46,7 +46,7 @@ fn emit_stmt(code: &mut Code, methods: &[Method], stmt: &Stmt) -> Result<(), Out
         Action::CutField(field, _) => code.put(Instr::CutField(*field), at),
         Action::Require(_) => code.put(Instr::Require, at),
         Action::Send(label, _) => {
-            let number = code.number_of(label);
+            let number = code.text_number(label);
             code.put_use(label, Instr::Send(number), at)
         }
         Action::Spawn(event, _) => code.put(Instr::Spawn(*event), at),

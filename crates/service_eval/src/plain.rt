@@ -42,7 +42,7 @@ fn plain_of<'v>(view: &View<'v, '_>, row: u16, args: &'v [Expr], at: Span) -> Op
     ensures { IfSome result (λ v. IsWorth view.now (Op at row (trees_of (map tree_of args.now))) v) }
 {
     match kind_given(row as usize) {
-        Kind::Int => int(number_of(view, row, args, at)),
+        Kind::Int => int(number_given(view, row, args, at)),
         Kind::Bool => truth(flag_of(view, row, args, at)),
         Kind::Text => text_of(view, row, args, at),
         Kind::Map => None,
@@ -55,7 +55,7 @@ pub fn number<'v>(view: &View<'v, '_>, e: &'v Expr) -> Option<i64>
     ensures { IfSome result (λ n. IsWorth view.now (tree_of e.now) (Value.Int n)) }
 {
     match &e.node {
-        Node::Op(row, args) => number_of(view, *row, args.as_slice(), e.at),
+        Node::Op(row, args) => number_given(view, *row, args.as_slice(), e.at),
         _ => match held_value(view, e) {
             Some(Value::Int(n)) => Some(*n),
             _ => None,
@@ -64,7 +64,7 @@ pub fn number<'v>(view: &View<'v, '_>, e: &'v Expr) -> Option<i64>
 }
 
 #[cycle(number)]
-fn number_of<'v>(view: &View<'v, '_>, row: u16, args: &'v [Expr], at: Span) -> Option<i64>
+fn number_given<'v>(view: &View<'v, '_>, row: u16, args: &'v [Expr], at: Span) -> Option<i64>
     ensures { IfSome result (λ n. IsWorth view.now (Op at row (trees_of (map tree_of args.now))) (Value.Int n)) }
 {
     match args {

@@ -27,8 +27,8 @@ use Rattle.wave_drives.specs.declared.ends.End.{End}
 use Rattle.std.proofs.lemmas.Bool.Decides.{nat_tests}
 use Rattle.wave_drives.specs.declared.rules.PickRule.{PickRule}
 use Rattle.wave_drives.specs.declared.rules.PickRule.TheVariants as rule
-use Rattle.wave_effects.specs.Kinds.{is_move, kind_of}
-use Rattle.wave_drives.specs.Rules.{number_of, rule_of}
+use Rattle.wave_effects.specs.Kinds.{is_move, job_kind}
+use Rattle.wave_drives.specs.Rules.{rule_number, rule_of}
 use Rattle.wave_theory.specs.Drives.{Picks, RulesPick}
 use Rattle.wave_theory.specs.Listed.{IsIn}
 use Rattle.wave_theory.specs.Owners.{ByOwners, OneOwner}
@@ -259,7 +259,7 @@ pub picks_of : RulesPick actors.Actor Fields EventResult Line → (r : PickRule)
 picks_of all (rule.Seed x) = all.by_seed
 picks_of all rule.Oldest = all.by_oldest
 picks_of all rule.Newest = all.by_newest
-picks_of all rule.Movers = all.by_movers (λ line. is_move (kind_of line))
+picks_of all rule.Movers = all.by_movers (λ line. is_move (job_kind line))
 picks_of all rule.MailLast = all.by_mail_last
 
 module _ (r : Rule actors.Actor Fields EventResult Line) (picks : Picks r) (x : ℕ) (s : TheState) where
@@ -295,7 +295,7 @@ driving_more all m m' plan start r x z ls ends ends' l d can picks leads same =
       same = same ∙ d.same;
       state = u.0;
       under = leads start d.state u.0 d.under u.1;
-      drives = drive_more (plan_actors plan.program) plan.workers plan.script.hosts (rule_of r) ls (number_of r) (first_state plan start) x d.state l u.0 z d.drives
+      drives = drive_more (plan_actors plan.program) plan.workers plan.script.hosts (rule_of r) ls (rule_number r) (first_state plan start) x d.state l u.0 z d.drives
           (subst (λ (p : Plan). rule_of r x d.state (enabled (plan_actors p.program) p.workers p.script.hosts d.state) ≡ (z, Some l)) d.same picks)
           (subst (λ (p : Plan). step (plan_actors p.program) p.workers d.state l ≡ Some u.0) d.same u.1);
     }

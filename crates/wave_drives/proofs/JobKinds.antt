@@ -23,7 +23,7 @@ use Rattle.wave_theory.proofs.Frames.{option_some}
 use Rattle.code_actor.specs.CodeActors.{Fields}
 use Rattle.plan_actors.specs.PlanActors as actors
 use Rattle.plan_actors.specs.PlanActors.{plan_actors, plan_kind}
-use Rattle.wave_effects.specs.Kinds.{is_move, kind_of}
+use Rattle.wave_effects.specs.Kinds.{is_move, job_kind}
 use Rattle.wave_effects.specs.Machines.{Kept, Known, Stands, TheState}
 use Rattle.wave_machine.specs.Movers.{line_moves, moves_by, moves_in}
 use Rattle.wave_drives.specs.inner.Moving.{first_move}
@@ -31,10 +31,10 @@ use Rattle.wave_effects.proofs.Opening.{left_by}
 use Rattle.wave_effects.proofs.Taking.{Laws, now}
 
 abbrev line_is_move : Line → Bool
-line_is_move line = is_move (kind_of line)
+line_is_move line = is_move (job_kind line)
 
 -- elements of the front of a list
-in_front : (n : ℕ) (xs : List Line) (i : ℕ) (k : JobKind) → slice_get (map kind_of (take n xs)) i ≡ Some k → job_is line_is_move (slice_get xs i) ≡ is_move k
+in_front : (n : ℕ) (xs : List Line) (i : ℕ) (k : JobKind) → slice_get (map job_kind (take n xs)) i ≡ Some k → job_is line_is_move (slice_get xs i) ≡ is_move k
 in_front zero xs i k e = absurd (nothing i e)
   where
     nothing : (i : ℕ) → slice_get [] i ≡ Some k → ⊥
@@ -45,7 +45,7 @@ in_front (suc n) [] i k e = absurd (nothing i e)
     nothing : (i : ℕ) → slice_get [] i ≡ Some k → ⊥
     nothing zero e = none_not e
     nothing (suc i) e = none_not e
-in_front (suc n) (x ∷ xs) zero k e = same (kind_of x) k e
+in_front (suc n) (x ∷ xs) zero k e = same (job_kind x) k e
   where
     same : (a b : JobKind) → Some a ≡ Some b → is_move a ≡ is_move b
     same a b e = cc
@@ -64,8 +64,8 @@ after_all : {X : Type 0} (xs ys : List X) → slice_get (xs ++ ys) (length xs) �
 after_all [] ys = refl
 after_all (x ∷ xs) ys = after_all xs ys
 
-as_many : (n : ℕ) (xs : List Line) → n ≤ length xs → length (map kind_of (take n xs)) ≡ n
-as_many n xs l = length-map (take n xs) kind_of ∙ length-take-le n xs l
+as_many : (n : ℕ) (xs : List Line) → n ≤ length xs → length (map job_kind (take n xs)) ≡ n
+as_many n xs l = length-map (take n xs) job_kind ∙ length-take-le n xs l
 
 -- no label of one context is of a ticket that has nothing
 module _ {A F R J : Type 0} (sys : Actors A F R J) where

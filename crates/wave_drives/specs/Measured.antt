@@ -8,10 +8,10 @@ use Rattle.plan_actors.specs.PlanActors.{plan_actors}
 use Rattle.plan_actors.specs.Plans.{Plan, Fits, FitsStart, begin_in}
 use Rattle.wave_effects.specs.Lengths.{IsMeasured}
 use Rattle.wave_drives.specs.declared.rules.PickRule.{PickRule}
-use Rattle.wave_drives.specs.Rules.{number_of, rule_of}
+use Rattle.wave_drives.specs.Rules.{rule_number, rule_of}
 
 -- What a rule drives is as long as a run that is finished.
 abbrev pub DrivesAreMeasured : Type 0
 DrivesAreMeasured = (plan : Plan) (start : Start) → Fits plan → FitsStart plan start → (rule : PickRule) (labels : List Label)
-    → runs.IsDrive (plan_actors plan.program) plan.workers plan.script.hosts (rule_of rule) (number_of rule) (start_state (begin_in plan start) plan.script.batches) labels
+    → runs.IsDrive (plan_actors plan.program) plan.workers plan.script.hosts (rule_of rule) (rule_number rule) (start_state (begin_in plan start) plan.script.batches) labels
     → IsMeasured plan start labels

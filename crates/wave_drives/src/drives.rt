@@ -16,7 +16,7 @@ ghost use Rattle.wave_effects.specs.Machines.{Stands, TheState};
 ghost use Rattle.wave_effects.specs.Plans.{plan_of};
 ghost use Rattle.wave_machine.specs.Readies.{enabled_in};
 ghost use Rattle.wave_drives.specs.declared.rules.PickRule.TheVariants as rule;
-ghost use Rattle.wave_drives.specs.Rules.{number_of, rule_of};
+ghost use Rattle.wave_drives.specs.Rules.{rule_number, rule_of};
 ghost use Rattle.wave_drives.specs.Walks.{IsUnder};
 ghost use Rattle.wave_drives.specs.inner.Driving.{first_state};
 
@@ -66,7 +66,7 @@ fn drive_on(
 ) -> Result<Vec<Label>, OutOfMemory>
     requires under { IsUnder walk.old.machine.kept walk.old.ends.items start.now (first_state (plan_of plan.now) start.now) }
     requires plan { walk.old.machine.kept.plan ≡ plan_of plan.now }
-    ensures driven { IfOk result (λ ls. IsDrive (plan_actors plan.now.program) plan.now.workers plan.now.script.hosts (rule_of rule) (number_of rule) (first_state (plan_of plan.now) start.now) (map label_of ls.items)) }
+    ensures driven { IfOk result (λ ls. IsDrive (plan_actors plan.now.program) plan.now.workers plan.now.script.hosts (rule_of rule) (rule_number rule) (first_state (plan_of plan.now) start.now) (map label_of ls.items)) }
     ensures finished { IfOk result (λ ls. (s : TheState) × Stands walk.new.machine.kept start.now s × runs.Finished (plan_actors plan.now.program) plan.now.workers s) }
     ensures plan { IfOk result (λ ls. walk.new.machine.kept.plan ≡ plan_of plan.now) }
 {
@@ -74,7 +74,7 @@ fn drive_on(
     runs_are_short();
     rules_pick::<PlanActors>();
     empty_at_end::<PlanActors>();
-    let mut draw = number_of(rule);
+    let mut draw = rule_number(rule);
     let mut labels = Vec::new(alloc);
     while let Some(label) = next(&walk.machine, rule, &mut draw)? {
         walk.take(alloc, plan, &label)?;
@@ -92,8 +92,8 @@ fn push(labels: &mut Vec<Label>, worker: Worker, host: Host, act: Act) -> Result
 }
 
 // The number that a rule begins with.
-fn number_of(rule: PickRule) -> u64
-    ensures { result ≡ number_of rule }
+fn rule_number(rule: PickRule) -> u64
+    ensures { result ≡ rule_number rule }
 {
     match rule {
         PickRule::Seed(number) => number,
@@ -112,7 +112,7 @@ pub fn drive_with(
     requires fits { Fits (plan_of plan.now) }
     requires begins { FitsStart (plan_of plan.now) start.now }
     ensures told { IfOk result (λ r. r.0 ≡ finished_of (code_ran plan.now.program) plan.now.program.shape start.now plan.now.script) }
-    ensures driven { IfOk result (λ r. IsDrive (plan_actors plan.now.program) plan.now.workers plan.now.script.hosts (rule_of rule) (number_of rule) (start_state (begin_in (plan_of plan.now) start.now) plan.now.script.batches) (map label_of r.1)) }
+    ensures driven { IfOk result (λ r. IsDrive (plan_actors plan.now.program) plan.now.workers plan.now.script.hosts (rule_of rule) (rule_number rule) (start_state (begin_in (plan_of plan.now) start.now) plan.now.script.batches) (map label_of r.1)) }
     ensures measured { IfOk result (λ r. IsMeasured (plan_of plan.now) start.now (map label_of r.1)) }
 {
     drives_are_measured();

@@ -6,7 +6,7 @@ use Rattle.std.proofs.lemmas.Option.{slice_get_within}
 use Rattle.std.proofs.Math.Seq.{take-append_seam}
 use Rattle.wave_base.specs.declared.script.Line.{Line}
 use Rattle.wave_base.specs.Fold.{Head}
-use Rattle.wave_effects.specs.Kinds.{kind_of}
+use Rattle.wave_effects.specs.Kinds.{job_kind}
 use Rattle.head_tickets.specs.Heads.{Heading, head_of, next_line}
 use Rattle.event_cells.specs.declared.cell.Cell.{Cell}
 use Rattle.event_cells.specs.declared.cell.JobKind.{JobKind}
@@ -65,7 +65,7 @@ new_is program line t c made =
     by_actor : (a : Actor) → made.actor ≡ a → IsActor program a (actor_of a)
     by_actor a e = subst (λ z. IsActor program z (actor_of z)) e (subst (IsActor program made.actor) made.made.same made.made)
 
-module _ (m : Kept) (s : TheState) (h : Shows m s) (t : ℕ) (line : Line) (c : Cell Actor) (head : Heading) (kind : JobKind) (at : t ≡ m.first + m.head.admitted) (fresh : (s.cells t).result ≡ None) (takes : TakesLine m.head head line) (named : kind ≡ kind_of line) (made : IsMade m.plan.program line t c) where
+module _ (m : Kept) (s : TheState) (h : Shows m s) (t : ℕ) (line : Line) (c : Cell Actor) (head : Heading) (kind : JobKind) (at : t ≡ m.first + m.head.admitted) (fresh : (s.cells t).result ≡ None) (takes : TakesLine m.head head line) (named : kind ≡ job_kind line) (made : IsMade m.plan.program line t c) where
   abbrev pub after : TheState
   after = admitted (plan_actors m.plan.program) s t line
 
@@ -98,14 +98,14 @@ module _ (m : Kept) (s : TheState) (h : Shows m s) (t : ℕ) (line : Line) (c : 
   known_is : s.head.known ≡ h.head.lines ++ m.head.waiting
   known_is = ap (λ (z : Head Line). z.known) h.head.head
 
-  kinds_is : m.settled.kinds ++ kind ∷ [] ≡ map kind_of (take head.admitted s.head.known)
+  kinds_is : m.settled.kinds ++ kind ∷ [] ≡ map job_kind (take head.admitted s.head.known)
   kinds_is =
       let lines = h.head.lines in
       let many : head.admitted ≡ length (lines ++ line ∷ []) = omega (arith, takes.admitted, h.head.as_many, length-append lines (line ∷ [])) in
-      let old : m.settled.kinds ≡ map kind_of lines = h.results.ledger.kinds ∙ ap (λ xs. map kind_of (take m.head.admitted xs)) known_is ∙ ap (λ n. map kind_of (take n (lines ++ m.head.waiting))) (sym h.head.as_many) ∙ ap (map kind_of) (take-append_seam lines m.head.waiting) in
+      let old : m.settled.kinds ≡ map job_kind lines = h.results.ledger.kinds ∙ ap (λ xs. map job_kind (take m.head.admitted xs)) known_is ∙ ap (λ n. map job_kind (take n (lines ++ m.head.waiting))) (sym h.head.as_many) ∙ ap (map job_kind) (take-append_seam lines m.head.waiting) in
       let now : s.head.known ≡ (lines ++ line ∷ []) ++ head.waiting = ap (λ (z : Head Line). z.known) (h.head.head ∙ sym (takes.fold lines)) in
       let first : take head.admitted s.head.known ≡ lines ++ line ∷ [] = ap (λ xs. take head.admitted xs) now ∙ ap (λ n. take n ((lines ++ line ∷ []) ++ head.waiting)) many ∙ take-append_seam (lines ++ line ∷ []) head.waiting in
-      ap (λ xs. xs ++ kind ∷ []) old ∙ ap (λ n. map kind_of lines ++ n ∷ []) named ∙ sym (map-append kind_of lines (line ∷ [])) ∙ ap (map kind_of) (sym first)
+      ap (λ xs. xs ++ kind ∷ []) old ∙ ap (λ n. map job_kind lines ++ n ∷ []) named ∙ sym (map-append job_kind lines (line ∷ [])) ∙ ap (map job_kind) (sym first)
 
   pub admitted_shows : Shows (with_admitted m head kind c) after
   admitted_shows = record {

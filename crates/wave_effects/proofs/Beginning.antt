@@ -6,7 +6,7 @@ use Rattle.std.specs.Prelude.{map, slice_get, take, All}
 use Rattle.wave_base.specs.declared.start.Start.{Start}
 use Rattle.wave_base.specs.Fold.{first_head, head_after, made}
 use Rattle.event_cells.specs.declared.cell.JobKind.{JobKind}
-use Rattle.wave_effects.specs.Kinds.{kind_of}
+use Rattle.wave_effects.specs.Kinds.{job_kind}
 use Rattle.script_fold.specs.Runs.{ticket_of}
 use Rattle.head_tickets.specs.Heads.{Heading, head_of}
 use Rattle.commit_order.specs.Commits.{Committing}
@@ -57,7 +57,7 @@ module _ (plan : Plan) (start : Start) (fits : Fits plan) (begins : FitsStart pl
         settled = λ i x e. absurd (nothing_in results i x no_results e);
         ended = λ t l. sym (ap (λ z. table.get z t) none ∙ table.get-empty nat_cmp t);
         ledger = record {
-          kinds = no_kinds ∙ sym (ap (λ n. map kind_of (take n the_start.head.known)) admitted);
+          kinds = no_kinds ∙ sym (ap (λ n. map job_kind (take n the_start.head.known)) admitted);
           head = sym (ap (λ xs. head_after (first_head plan.script.batches) (created_in xs)) no_results);
           made = ap (map (λ (x : Settled). x.made)) no_results ∙ sym (ap (λ xs. map (map ticket_of) (made start.next.0 (first_head plan.script.batches) (created_in xs))) no_results);
         };

@@ -10,7 +10,7 @@ use Rattle.wave_base.specs.declared.outcome.EventResult.{EventResult}
 use Rattle.wave_base.specs.declared.numbers.Ticket.{Ticket}
 use Rattle.wave_base.specs.declared.script.Line.{Line}
 use Rattle.wave_base.specs.Fold.{Head, created_lines, first_head, head_after, made, tickets_of, with_done}
-use Rattle.wave_effects.specs.Kinds.{kind_of}
+use Rattle.wave_effects.specs.Kinds.{job_kind}
 use Rattle.script_fold.specs.Runs.{ticket_of}
 use Rattle.script_fold.proofs.LeftLemmas.{head_push}
 use Rattle.head_tickets.specs.Heads.{Heading, head_of}
@@ -61,8 +61,8 @@ module _ (m : Kept) (s : TheState) (h : Shows m s) (r : EventResult) (x : Settle
   first_of : (z : Heading) → z.admitted ≡ m.head.admitted → (u : Head Line) → u ≡ head_of h.head.lines z → take z.admitted u.known ≡ h.head.lines
   first_of z n u e = ap (λ (v : Head Line). take z.admitted v.known) e ∙ ap (λ k. take k (h.head.lines ++ z.waiting)) (n ∙ sym h.head.as_many) ∙ take-append_seam h.head.lines z.waiting
 
-  kinds_is : m.settled.kinds ≡ map kind_of (take head.admitted (with_done s.head (created_lines r)).known)
-  kinds_is = h.results.ledger.kinds ∙ ap (map kind_of) (first_of m.head refl s.head h.head.head ∙ sym (first_of head does.admitted (with_done s.head (created_lines r)) head_is))
+  kinds_is : m.settled.kinds ≡ map job_kind (take head.admitted (with_done s.head (created_lines r)).known)
+  kinds_is = h.results.ledger.kinds ∙ ap (map job_kind) (first_of m.head refl s.head h.head.head ∙ sym (first_of head does.admitted (with_done s.head (created_lines r)) head_is))
 
   created_is : created_in (m.settled.results ++ x ∷ []) ≡ created_in m.settled.results ++ created_lines r ∷ []
   created_is = map-append (λ y. created_lines y.result) m.settled.results (x ∷ []) ∙ ap (λ (z : EventResult). created_in m.settled.results ++ created_lines z ∷ []) result

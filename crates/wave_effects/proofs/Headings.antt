@@ -11,7 +11,7 @@ use Rattle.wave_base.specs.declared.script.Line.TheVariants.{Request}
 use Rattle.wave_base.specs.declared.start.Start.{Start}
 use Rattle.wave_base.specs.Fold.{Head, begun, created_lines, next_batch, tickets_of, with_done}
 use Rattle.script_fold.specs.Lines.{FitsJob}
-use Rattle.wave_effects.specs.Kinds.{kind_of}
+use Rattle.wave_effects.specs.Kinds.{job_kind}
 use Rattle.script_fold.proofs.LeftLemmas.{All-drop_head}
 use Rattle.head_tickets.specs.Heads.{Heading, head_of, last_known, line_count, next_line}
 use Rattle.commit_order.specs.Commits.{Committing, ready_result}
@@ -78,7 +78,7 @@ module _ (m : Kept) (w host t : ℕ) (on : IsEnabled m (record { worker = w; hos
   admit_next = next_is m on.state on.stands.shows found.job found.known
 
 module _ (laws : Laws) (m : Kept) (w host t : ℕ) where
-  pub admit_taken : (line : Line) (c : Cell Actor) (head : Heading) (kind : JobKind) → TakesLine m.head head line → kind ≡ kind_of line → IsNext m c → Takes m (with_admitted m head kind c) (record { worker = w; host = host; act = Admit t })
+  pub admit_taken : (line : Line) (c : Cell Actor) (head : Heading) (kind : JobKind) → TakesLine m.head head line → kind ≡ job_kind line → IsNext m c → Takes m (with_admitted m head kind c) (record { worker = w; host = host; act = Admit t })
   admit_taken line c head kind takes named next start s s' stands e =
       let l : Label = record { worker = w; host = host; act = Admit t } in
       let sys = plan_actors m.plan.program in
@@ -168,7 +168,7 @@ module _ (laws : Laws) (m : Kept) (w host t : ℕ) where
 
 module _ (laws : Laws) (m : Kept) (w host t : ℕ) where
   -- the same where kinds and cells are given by what they are
-  pub admit_pushed : (line : Line) (c : Cell Actor) (head : Heading) (kind : JobKind) (kinds : List JobKind) (cells : List (Cell Actor)) → TakesLine m.head head line → kind ≡ kind_of line → IsNext m c → kinds ≡ m.settled.kinds ++ kind ∷ [] → cells ≡ m.cells ++ c ∷ []
+  pub admit_pushed : (line : Line) (c : Cell Actor) (head : Heading) (kind : JobKind) (kinds : List JobKind) (cells : List (Cell Actor)) → TakesLine m.head head line → kind ≡ job_kind line → IsNext m c → kinds ≡ m.settled.kinds ++ kind ∷ [] → cells ≡ m.cells ++ c ∷ []
       → Takes m (record { plan = m.plan; first = m.first; head = head; commits = m.commits; settled = record { kinds = kinds; results = m.settled.results }; cells = cells; stores = m.stores; hands = m.hands }) (record { worker = w; host = host; act = Admit t })
   admit_pushed line c head kind kinds cells takes named next ns cs =
       subst (λ ds. Takes m (record { plan = m.plan; first = m.first; head = head; commits = m.commits; settled = record { kinds = kinds; results = m.settled.results }; cells = ds; stores = m.stores; hands = m.hands }) (record { worker = w; host = host; act = Admit t })) (sym cs)

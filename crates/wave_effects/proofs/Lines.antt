@@ -25,7 +25,7 @@ use Rattle.wave_effects.specs.declared.kept.Settled.{Settled}
 use Rattle.wave_base.specs.declared.shown.Shown.{Shown}
 use Rattle.wave_effects.specs.Heading.{KnownHead}
 use Rattle.wave_effects.specs.inner.Lines.{IsKept}
-use Rattle.wave_effects.specs.Kinds.{kind_of, name_in}
+use Rattle.wave_effects.specs.Kinds.{job_kind, name_in}
 use Rattle.wave_effects.specs.Machines.{Kept, Shows, Stands, TheState, created_in}
 use Rattle.wave_effects.specs.Showing.{IsLineOf}
 use Rattle.wave_effects.proofs.Headings.{Heads, known_is}
@@ -88,7 +88,7 @@ module _ (m : Kept) (start : Start) (s : TheState) (stands : Stands m start s) (
 
   one_name : (i : ℕ) (kind : JobKind) → slice_get m.settled.kinds i ≡ Some kind → slice_get (map name_of (whole_run (code_ran m.plan.program) m.plan.program.shape start m.plan.script).head.known) i ≡ Some (name_in kind)
   one_name i kind e =
-      let x = map_some kind_of (slice_get (take m.head.admitted s.head.known) i) kind (sym (slice_get-map kind_of (take m.head.admitted s.head.known) i) ∙ ap (λ xs. slice_get xs i) (sym h.results.ledger.kinds) ∙ e) in
+      let x = map_some job_kind (slice_get (take m.head.admitted s.head.known) i) kind (sym (slice_get-map job_kind (take m.head.admitted s.head.known) i) ∙ ap (λ xs. slice_get xs i) (sym h.results.ledger.kinds) ∙ e) in
       let there = tickets.stay n i x.0 later (slice_take m.head.admitted s.head.known i x.0 x.1) in
       slice_get-map name_of (whole_run (code_ran m.plan.program) m.plan.program.shape start m.plan.script).head.known i
       ∙ ap (option_map name_of) (ap (λ (w : Progress Fields EventResult Line). slice_get w.head.known i) (sym whole) ∙ there) ∙ ap Some (sym (name_is x.0) ∙ ap name_in (sym x.2))
@@ -120,7 +120,7 @@ kinds_many heads m start s stands =
     let h = stands.shows in
     let lines = h.head.lines in
     let known = heads m.plan start stands.labels s stands.fits stands.begins stands.reached in
-    let kinds : m.settled.kinds ≡ map kind_of lines = h.results.ledger.kinds ∙ ap (λ xs. map kind_of (take m.head.admitted xs)) (known_is m s h) ∙ ap (λ n. map kind_of (take n (lines ++ m.head.waiting))) (sym h.head.as_many) ∙ ap (map kind_of) (take-append_seam lines m.head.waiting) in
-    let many : length m.settled.kinds ≡ m.head.admitted = ap length kinds ∙ length-map lines kind_of ∙ h.head.as_many in
+    let kinds : m.settled.kinds ≡ map job_kind lines = h.results.ledger.kinds ∙ ap (λ xs. map job_kind (take m.head.admitted xs)) (known_is m s h) ∙ ap (λ n. map job_kind (take n (lines ++ m.head.waiting))) (sym h.head.as_many) ∙ ap (map job_kind) (take-append_seam lines m.head.waiting) in
+    let many : length m.settled.kinds ≡ m.head.admitted = ap length kinds ∙ length-map lines job_kind ∙ h.head.as_many in
     let done : s.head.done ≡ m.head.done = ap (λ (x : Head Line). x.done) h.head.head in
     omega (arith, many, h.results.as_many, done, known.in_time, h.head.admitted)

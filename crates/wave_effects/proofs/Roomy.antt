@@ -14,7 +14,7 @@ use Rattle.wave_effects.specs.declared.actor.Actor.{Actor}
 use Rattle.wave_effects.specs.declared.lease.Lease.{Lease}
 use Rattle.wave_base.specs.Fold.{first_head, head_after, made}
 use Rattle.script_fold.specs.Runs.{ticket_of}
-use Rattle.wave_effects.specs.Kinds.{kind_of}
+use Rattle.wave_effects.specs.Kinds.{job_kind}
 use Rattle.wave_effects.specs.Machines.{TheState, Kept, Ledger, IsCell, IsReached, Keeps, Shows, created_in}
 use Rattle.wave_effects.specs.Running.{IsBack, IsStopping}
 use Rattle.wave_effects.specs.Spare.{IsCellOf, IsStoreOf, SameButRooms}
@@ -120,7 +120,7 @@ module _ (m m' : Kept) (same : SameButRooms m m') where
       next = ap (λ n. n + 1) same.committed ∙ h.results.next ∙ (λ j. sym same.first j + (sym same.head j).done);
       settled = λ i x e. ap (λ n. (s.cells (n + i)).result) same.first ∙ h.results.settled i x (sym (ap (λ (l : Ledger). slice_get l.results i) same.settled) ∙ e);
       ledger = record {
-        kinds = ap (λ (x : Ledger). x.kinds) same.settled ∙ h.results.ledger.kinds ∙ ap (λ (x : Heading). map kind_of (take x.admitted s.head.known)) (sym same.head);
+        kinds = ap (λ (x : Ledger). x.kinds) same.settled ∙ h.results.ledger.kinds ∙ ap (λ (x : Heading). map job_kind (take x.admitted s.head.known)) (sym same.head);
         head = h.results.ledger.head ∙ (λ j. head_after (first_head (sym same.plan j).script.batches) (created_in (sym same.settled j).results));
         made = ap (λ (x : Ledger). map (λ z. z.made) x.results) same.settled ∙ h.results.ledger.made
             ∙ (λ j. map (map ticket_of) (made (sym same.first j) (first_head (sym same.plan j).script.batches) (created_in (sym same.settled j).results)));

@@ -37,7 +37,7 @@ use Rattle.plan_actors.specs.Plans.{Plan, Fits, FitsStart, Setting, begin_in}
 use Rattle.plan_actors.proofs.Meeting.{begin_fits, plan_fits}
 use Rattle.plan_actors.proofs.Owing.{setting_of}
 use Rattle.wave_effects.specs.declared.kept.Settled.{Settled}
-use Rattle.wave_effects.specs.Kinds.{kind_of, name_in}
+use Rattle.wave_effects.specs.Kinds.{job_kind, name_in}
 use Rattle.wave_effects.specs.inner.Endings.{AreHome, AreServed, IsLoadOf, IsPlace, IsShotOf, Paired}
 use Rattle.wave_effects.specs.Machines.{IsReached, Kept, Known, Shows, Stands, TheState, created_in}
 use Rattle.wave_effects.proofs.Ending.{Completes, all_from, some_at, so_done}
@@ -51,12 +51,12 @@ abbrev pub LoadsAre : Type 0
 LoadsAre = (plan : Plan) (start : Start) (labels : List Label) (s : TheState) → Fits plan → FitsStart plan start → IsReached plan start labels s → Loads (plan_kind plan.program plan.script.hosts) plan.workers (begin_in plan start) plan.script.batches s
 
 -- the kind of a line tells its event
-pub name_is : (l : Line) → name_in (kind_of l) ≡ name_of l
+pub name_is : (l : Line) → name_in (job_kind l) ≡ name_of l
 name_is (Request call) = refl
 name_is (Move p h) = refl
 name_is Snapshot = refl
 
-names_of : (ls : List Line) → map name_in (map kind_of ls) ≡ map name_of ls
+names_of : (ls : List Line) → map name_in (map job_kind ls) ≡ map name_of ls
 names_of [] = refl
 names_of (l ∷ ls) = ap₂ (λ x xs. x ∷ xs) (name_is l) (names_of ls)
 
@@ -144,7 +144,7 @@ module _ (laws : Laws) (heads : Heads) (completes : Completes) (loads_are : Load
       let none = (so_done laws heads m start s stands completes finished).none_next in
       let waiting : m.head.waiting ≡ [] = empty_is m.head.waiting none in
       let all : s.head.known ≡ lines = known_is m s h ∙ ap (λ xs. lines ++ xs) waiting ∙ append-nil lines in
-      ap (map name_in) (h.results.ledger.kinds ∙ ap (λ xs. map kind_of (take m.head.admitted xs)) (known_is m s h) ∙ ap (λ n. map kind_of (take n (lines ++ m.head.waiting))) (sym h.head.as_many) ∙ ap (map kind_of) (take-append_seam lines m.head.waiting ∙ sym all)) ∙ names_of s.head.known
+      ap (map name_in) (h.results.ledger.kinds ∙ ap (λ xs. map job_kind (take m.head.admitted xs)) (known_is m s h) ∙ ap (λ n. map job_kind (take n (lines ++ m.head.waiting))) (sym h.head.as_many) ∙ ap (map job_kind) (take-append_seam lines m.head.waiting ∙ sym all)) ∙ names_of s.head.known
 
   module _ (f : Told) (results : f.results ≡ map (λ (x : Settled). x.result) m.settled.results) (made_is : f.made ≡ map (λ (x : Settled). x.made) m.settled.results) (names : f.names ≡ map name_in m.settled.kinds) (ordered : IsStrictlySortedBy path_cmp (map path_of f.places))
       (there : All (IsPlace m.stores) f.places) (all_there : (host : ℕ) (x : Stores) (p : Path) → slice_get m.stores host ≡ Some x → has p x ≡ true → list_any (path_eq p) (map path_of f.places) ≡ true)

@@ -5,10 +5,10 @@ use Rattle.wave_base.specs.declared.script.Line.TheVariants as line
 use Rattle.event_cells.specs.declared.cell.JobKind.{JobKind}
 use Rattle.event_cells.specs.declared.cell.JobKind.TheVariants.{Event, Move, Snapshot}
 
-abbrev pub kind_of : Line → JobKind
-kind_of (line.Request call) = Event call.event
-kind_of (line.Move p h) = Move
-kind_of line.Snapshot = Snapshot
+abbrev pub job_kind : Line → JobKind
+job_kind (line.Request call) = Event call.event
+job_kind (line.Move p h) = Move
+job_kind line.Snapshot = Snapshot
 
 -- the number of an event
 abbrev pub name_in : JobKind → Option ℕ

@@ -31,7 +31,7 @@ use Rattle.plan_actors.specs.Runs.{IsRunTo}
 use Rattle.wave_effects.specs.declared.actor.Actor.{Actor}
 use Rattle.wave_effects.specs.declared.kept.Out.{Out}
 use Rattle.wave_effects.specs.declared.kept.Settled.{Settled}
-use Rattle.wave_effects.specs.Kinds.{kind_of}
+use Rattle.wave_effects.specs.Kinds.{job_kind}
 use Rattle.wave_effects.specs.Actors.{IsActor, actor_of}
 
 abbrev pub TheState : Type 0
@@ -95,7 +95,7 @@ module _ (m : Kept) (s : TheState) where
 
   -- the kinds of the admitted jobs; and the committed results have made the head what it is, with these tickets for what they created
   pub record IsLedger : Type 0 where
-    pub kinds : m.settled.kinds ≡ map kind_of (take m.head.admitted s.head.known)
+    pub kinds : m.settled.kinds ≡ map job_kind (take m.head.admitted s.head.known)
     pub head : s.head ≡ head_after (first_head m.plan.script.batches) (created_in m.settled.results)
     pub made : map (λ x. x.made) m.settled.results ≡ map (map ticket_of) (made m.first (first_head m.plan.script.batches) (created_in m.settled.results))
 

@@ -7,7 +7,7 @@ ghost use Rattle.code_actor.specs.CodeActors as code;
 ghost use Rattle.head_tickets.specs.Heads.{line_of};
 ghost use Rattle.plan_actors.specs.PlanActors as theory;
 ghost use Rattle.wave_effects.specs.Actors.{IsActor};
-ghost use Rattle.wave_effects.specs.Kinds.{kind_of, name_in};
+ghost use Rattle.wave_effects.specs.Kinds.{job_kind, name_in};
 
 use crate::actor::Actor;
 use event_cells::JobKind;
@@ -62,8 +62,8 @@ fn serve(
 }
 
 // What a cell says of the job of a line.
-pub(crate) fn kind_of(line: &Line) -> JobKind
-    ensures { result ≡ kind_of line.now }
+pub(crate) fn job_kind(line: &Line) -> JobKind
+    ensures { result ≡ job_kind line.now }
 {
     match line {
         Line::Request(call) => JobKind::Event(call.event),
@@ -74,7 +74,7 @@ pub(crate) fn kind_of(line: &Line) -> JobKind
 
 // And of a job.
 pub(crate) fn kind_of_job(job: &Job) -> JobKind
-    ensures { result ≡ kind_of (line_of job.now) }
+    ensures { result ≡ job_kind (line_of job.now) }
 {
     match job {
         Job::Event(call) => JobKind::Event(call.event),

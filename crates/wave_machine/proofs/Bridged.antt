@@ -16,7 +16,7 @@ use Rattle.event_cells.specs.Keeps.{mail_in}
 use Rattle.host_map.specs.Stores.{Stores}
 use Rattle.wave_states.specs.Canonical.{enabled_for}
 use Rattle.wave_states.specs.Labels.{Act, Label, Admit, Commit, Grant}
-use Rattle.wave_theory.specs.Listed.{IsIn, kind_of}
+use Rattle.wave_theory.specs.Listed.{IsIn, kind_rank}
 use Rattle.wave_theory.proofs.Basics.{some_same}
 use Rattle.plan_actors.specs.PlanActors.{plan_actors}
 use Rattle.wave_effects.specs.declared.actor.Actor.{Actor}
@@ -99,7 +99,7 @@ module _ (m : Kept) (w : ℕ) (ws : List ℕ) (none : (t : ℕ) (st : Status) �
 
 order_as : (w : ℕ) (ls : List Label) → in_order (map (with_worker w) ls) ≡ map (with_worker w) (in_order ls)
 order_as w ls =
-    flat_same (λ k. of_kind k (map (with_worker w) ls)) (λ k. map (with_worker w) (of_kind k ls)) (λ k. filter_of_map (λ (l : Label). kind_of l.act == k) (with_worker w) ls) (tickets_from 0 10)
+    flat_same (λ k. of_kind k (map (with_worker w) ls)) (λ k. map (with_worker w) (of_kind k ls)) (λ k. filter_of_map (λ (l : Label). kind_rank l.act == k) (with_worker w) ls) (tickets_from 0 10)
     ∙ sym (map_flat (with_worker w) (λ k. of_kind k ls) (tickets_from 0 10))
 
 pub map_twice : {X Y Z : Type 0} (g : Y → Z) (f : X → Y) (xs : List X) → map g (map f xs) ≡ map (λ x. g (f x)) xs

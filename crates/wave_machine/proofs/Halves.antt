@@ -7,16 +7,16 @@ use Rattle.std.proofs.lemmas.Bool.Decides.{nat_tests}
 use Rattle.wave_labels.specs.Labels.{act_eq, act_of}
 use Rattle.wave_labels.specs.LabelLaws.{act_itself, act_same}
 use Rattle.wave_states.specs.Labels.{Act, Label, Admit, Queue, Grant, Visit, Start, Stop, Free, Pass, Land, Commit, ticket_of}
-use Rattle.wave_theory.specs.Listed.{Before, IsIn, Rising, kind_of, mail_of}
+use Rattle.wave_theory.specs.Listed.{Before, IsIn, Rising, kind_rank, mail_of}
 use Rattle.wave_theory.proofs.Basics.{and_first, and_second, number_is, number_self}
 use Rattle.wave_machine.specs.declared.ready.Ready.{Ready}
-use Rattle.wave_machine.specs.inner.Index.{Parted, by_none, number_of, under}
+use Rattle.wave_machine.specs.inner.Index.{Parted, by_none, act_number, under}
 use Rattle.wave_machine.proofs.Bridged.{with_worker}
 use Rattle.wave_effects.proofs.Ending.{and_true}
 
 -- ---- a list in its order, at the place of one that is in it
 
-mail_is : (a : Act) → mail_of a ≡ number_of a
+mail_is : (a : Act) → mail_of a ≡ act_number a
 mail_is (Admit t) = refl
 mail_is (Queue t k p) = refl
 mail_is (Grant t p) = refl
@@ -43,8 +43,8 @@ less_not a t k b u j h = grind (arith, nat_tests)
 self_not : (a t k : ℕ) → comes a t k a t k ≡ false
 self_not a t k = grind (arith, nat_tests)
 
-as_numbers : (a b : Act) → Before a b → Less (kind_of a) (ticket_of a) (number_of a) (kind_of b) (ticket_of b) (number_of b)
-as_numbers a b h = subst (λ n. Less (kind_of a) (ticket_of a) (number_of a) (kind_of b) (ticket_of b) n) (mail_is b) (subst (λ n. Less (kind_of a) (ticket_of a) n (kind_of b) (ticket_of b) (mail_of b)) (mail_is a) h)
+as_numbers : (a b : Act) → Before a b → Less (kind_rank a) (ticket_of a) (act_number a) (kind_rank b) (ticket_of b) (act_number b)
+as_numbers a b h = subst (λ n. Less (kind_rank a) (ticket_of a) (act_number a) (kind_rank b) (ticket_of b) n) (mail_is b) (subst (λ n. Less (kind_rank a) (ticket_of a) n (kind_rank b) (ticket_of b) (mail_of b)) (mail_is a) h)
 
 abbrev act_in : Ready → Act
 act_in r = act_of r.act
@@ -69,18 +69,18 @@ pub record Found (rs : List Ready) (r : Ready) : Type 0 where
   pub low : List Ready
   pub high : List Ready
   pub all : rs ≡ low ++ r ∷ high
-  pub lower : AllByRecursion (λ (l : Label). under (kind_of (act_in r)) (ticket_of (act_in r)) (number_of (act_in r)) l.act ≡ true) (map by_none low)
-  pub higher : AllByRecursion (λ (l : Label). under (kind_of (act_in r)) (ticket_of (act_in r)) (number_of (act_in r)) l.act ≡ false) (map by_none (r ∷ high))
+  pub lower : AllByRecursion (λ (l : Label). under (kind_rank (act_in r)) (ticket_of (act_in r)) (act_number (act_in r)) l.act ≡ true) (map by_none low)
+  pub higher : AllByRecursion (λ (l : Label). under (kind_rank (act_in r)) (ticket_of (act_in r)) (act_number (act_in r)) l.act ≡ false) (map by_none (r ∷ high))
 
 before_it : (x r : Ready) (rs : List Ready) → AllByRecursion (λ (m : Label). Before (act_in x) m.act) (map by_none rs) → IsIn rs r → Before (act_in x) (act_in r)
 before_it x r [] h e = absurd e
 before_it x r (y ∷ rs) h (inl same) = subst (λ z. Before (act_in x) (act_in z)) same h.0
 before_it x r (y ∷ rs) h (inr e) = before_it x r rs h.1 e
 
-behind_it : (r : Ready) (rs : List Ready) → AllByRecursion (λ (m : Label). Before (act_in r) m.act) (map by_none rs) → AllByRecursion (λ (l : Label). under (kind_of (act_in r)) (ticket_of (act_in r)) (number_of (act_in r)) l.act ≡ false) (map by_none rs)
+behind_it : (r : Ready) (rs : List Ready) → AllByRecursion (λ (m : Label). Before (act_in r) m.act) (map by_none rs) → AllByRecursion (λ (l : Label). under (kind_rank (act_in r)) (ticket_of (act_in r)) (act_number (act_in r)) l.act ≡ false) (map by_none rs)
 behind_it r [] h = tt
 behind_it r (y ∷ rs) h =
-    (less_not (kind_of (act_in r)) (ticket_of (act_in r)) (number_of (act_in r)) (kind_of (act_in y)) (ticket_of (act_in y)) (number_of (act_in y)) (as_numbers (act_in r) (act_in y) h.0), behind_it r rs h.1)
+    (less_not (kind_rank (act_in r)) (ticket_of (act_in r)) (act_number (act_in r)) (kind_rank (act_in y)) (ticket_of (act_in y)) (act_number (act_in y)) (as_numbers (act_in r) (act_in y) h.0), behind_it r rs h.1)
 
 pub found_in : (rs : List Ready) (r : Ready) → InOrder rs → IsIn rs r → Found rs r
 found_in [] r h e = absurd e
@@ -89,7 +89,7 @@ found_in (x ∷ rs) r h (inl same) = record {
   high = rs;
   all = ap (λ z. z ∷ rs) same;
   lower = tt;
-  higher = (self_not (kind_of (act_in r)) (ticket_of (act_in r)) (number_of (act_in r)), behind_it r rs (subst (λ z. AllByRecursion (λ (m : Label). Before (act_in z) m.act) (map by_none rs)) same h.0));
+  higher = (self_not (kind_rank (act_in r)) (ticket_of (act_in r)) (act_number (act_in r)), behind_it r rs (subst (λ z. AllByRecursion (λ (m : Label). Before (act_in z) m.act) (map by_none rs)) same h.0));
 }
 found_in (x ∷ rs) r h (inr e) =
     let f = found_in rs r h.1 e in
@@ -97,7 +97,7 @@ found_in (x ∷ rs) r h (inr e) =
       low = x ∷ f.low;
       high = f.high;
       all = ap (λ zs. x ∷ zs) f.all;
-      lower = (less_comes (kind_of (act_in x)) (ticket_of (act_in x)) (number_of (act_in x)) (kind_of (act_in r)) (ticket_of (act_in r)) (number_of (act_in r)) (as_numbers (act_in x) (act_in r) (before_it x r rs h.0 e)), f.lower);
+      lower = (less_comes (kind_rank (act_in x)) (ticket_of (act_in x)) (act_number (act_in x)) (kind_rank (act_in r)) (ticket_of (act_in r)) (act_number (act_in r)) (as_numbers (act_in x) (act_in r) (before_it x r rs h.0 e)), f.lower);
       higher = f.higher;
     }
 
@@ -107,21 +107,21 @@ at_length (y ∷ low) x high = at_length low x high
 
 -- where the search by halves comes to there is what is searched
 pub place_found : (rs : List Ready) (r : Ready) (at : ℕ) → InOrder rs
-    → ((low high : List Label) → Parted (map by_none rs) (kind_of (act_in r)) (ticket_of (act_in r)) (number_of (act_in r)) low high → at ≡ length low)
+    → ((low high : List Label) → Parted (map by_none rs) (kind_rank (act_in r)) (ticket_of (act_in r)) (act_number (act_in r)) low high → at ≡ length low)
     → IsIn rs r → slice_get rs at ≡ Some r
 place_found rs r at h place e =
     let f = found_in rs r h e in
-    let parted : Parted (map by_none rs) (kind_of (act_in r)) (ticket_of (act_in r)) (number_of (act_in r)) (map by_none f.low) (map by_none (r ∷ f.high)) =
+    let parted : Parted (map by_none rs) (kind_rank (act_in r)) (ticket_of (act_in r)) (act_number (act_in r)) (map by_none f.low) (map by_none (r ∷ f.high)) =
     record { all = ap (map by_none) f.all ∙ map-append by_none f.low (r ∷ f.high); lower = f.lower; higher = f.higher } in
     let there : at ≡ length f.low = place (map by_none f.low) (map by_none (r ∷ f.high)) parted ∙ length-map f.low by_none in
     (λ i. slice_get (f.all i) (there i)) ∙ at_length f.low r f.high
 
 -- the place, by what the code has computed of it
-pub place_as : (rs : List Ready) (r : Ready) (at kind t k : ℕ) → kind ≡ kind_of (act_in r) → t ≡ ticket_of (act_in r) → k ≡ number_of (act_in r)
+pub place_as : (rs : List Ready) (r : Ready) (at kind t k : ℕ) → kind ≡ kind_rank (act_in r) → t ≡ ticket_of (act_in r) → k ≡ act_number (act_in r)
     → ((low high : List Label) → Parted (map by_none rs) kind t k low high → at ≡ length low)
-    → (low high : List Label) → Parted (map by_none rs) (kind_of (act_in r)) (ticket_of (act_in r)) (number_of (act_in r)) low high → at ≡ length low
+    → (low high : List Label) → Parted (map by_none rs) (kind_rank (act_in r)) (ticket_of (act_in r)) (act_number (act_in r)) low high → at ≡ length low
 place_as rs r at kind t k e f g place low high p =
-    place low high (subst (λ n. Parted (map by_none rs) n t k low high) (sym e) (subst (λ n. Parted (map by_none rs) (kind_of (act_in r)) n k low high) (sym f) (subst (λ n. Parted (map by_none rs) (kind_of (act_in r)) (ticket_of (act_in r)) n low high) (sym g) p)))
+    place low high (subst (λ n. Parted (map by_none rs) n t k low high) (sym e) (subst (λ n. Parted (map by_none rs) (kind_rank (act_in r)) n k low high) (sym f) (subst (λ n. Parted (map by_none rs) (kind_rank (act_in r)) (ticket_of (act_in r)) n low high) (sym g) p)))
 
 -- equal ones are the same
 pub ready_same : (a b : Ready) → ((a.host.0 == b.host.0) && act_eq a.act b.act) ≡ true → a ≡ b

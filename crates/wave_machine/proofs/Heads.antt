@@ -8,12 +8,12 @@ use Rattle.wave_base.specs.declared.outcome.EventResult.{EventResult}
 use Rattle.commit_order.specs.Commits.{ready_result}
 use Rattle.head_tickets.specs.Heads.{Heading, next_ticket}
 use Rattle.wave_states.specs.Labels.{Label, Admit, Commit, ticket_of}
-use Rattle.wave_theory.specs.Listed.{kind_of}
+use Rattle.wave_theory.specs.Listed.{kind_rank}
 use Rattle.wave_theory.proofs.Basics.{and_first, differ, number_is}
 use Rattle.wave_machine.specs.declared.ready.Ready.{Ready}
 use Rattle.wave_effects.specs.Machines.{Kept}
 use Rattle.wave_machine.specs.inner.Asking.{admit_labels, commit_labels, in_order, label_at, of_kind}
-use Rattle.wave_machine.specs.inner.Index.{Goes, High, IsHead, IsInner, Low, by_none, head_in, head_of, is_admit, number_of}
+use Rattle.wave_machine.specs.inner.Index.{Goes, High, IsHead, IsInner, Low, by_none, head_in, head_of, is_admit, act_number}
 use Rattle.wave_machine.proofs.Ordering.{all_filter, all_flat, all_map}
 use Rattle.wave_machine.proofs.Parting.{at_place, first_none, is_slot}
 use Rattle.wave_machine.proofs.Relisted.{IsFirst, IsLast}
@@ -73,7 +73,7 @@ admit_stands old (Some t) None b inner e y = absurd (true≢false (sym y ∙ at_
   where
     none : AllByRecursion (λ (l : Label). is_slot 0 t.0 0 l.act ≡ false) (in_order b)
     none = all_flat (λ (l : Label). is_slot 0 t.0 0 l.act ≡ false) (λ k. of_kind k b) (λ k.
-        all_filter (λ (l : Label). is_slot 0 t.0 0 l.act ≡ false) IsInner (λ (l : Label). kind_of l.act == k) (λ l e h. ap (λ c. c && ((ticket_of l.act == t.0) && (number_of l.act == 0))) (differ (kind_of l.act) 0 (λ is. let low = h.0 in omega (arith, is, low)))) b inner) (tickets_from 0 10)
+        all_filter (λ (l : Label). is_slot 0 t.0 0 l.act ≡ false) IsInner (λ (l : Label). kind_rank l.act == k) (λ l e h. ap (λ c. c && ((ticket_of l.act == t.0) && (act_number l.act == 0))) (differ (kind_rank l.act) 0 (λ is. let low = h.0 in omega (arith, is, low)))) b inner) (tickets_from 0 10)
 admit_stands old (Some t) (Some u) b inner e y =
     let here : ((u == t.0) && (0 == 0)) ≡ true = sym (at_place 0 t.0 0 old [] (in_order (label_at 0 0 (Some (Admit u)) ++ b)) e) ∙ y in
     let same : u ≡ t.0 = number_is u t.0 (and_first (u == t.0) (0 == 0) here) in

@@ -30,7 +30,7 @@ use Rattle.wave_effects.specs.Running.{CanStop, IsStopping, Stops, stop_of}
 use Rattle.wave_effects.specs.Apart.{new_cells}
 use Rattle.wave_effects.specs.Sized.{IsNumbered}
 use Rattle.wave_machine.specs.inner.Asking.{enter_act, label_at, mail_act, mail_labels, route_at}
-use Rattle.wave_machine.specs.inner.Index.{KeepsMails, number_of, sent_at, sent_by}
+use Rattle.wave_machine.specs.inner.Index.{KeepsMails, act_number, sent_at, sent_by}
 use Rattle.wave_effects.proofs.Ending.{none_carries}
 use Rattle.wave_machine.proofs.Grows.{admit_grows}
 use Rattle.wave_machine.proofs.OwnMails.{KeepsOwn, own_by}
@@ -116,7 +116,7 @@ module _ (laws : Laws) (m : Kept) (start : Start) (s : TheState) (stands : Stand
       number_in t k x there.0 at low there.1
 
 -- what brings no cell, or has no mail of its own
-no_number : (a : Act) → new_cells a ≡ 1 → number_of a ≡ 0
+no_number : (a : Act) → new_cells a ≡ 1 → act_number a ≡ 0
 no_number (Admit t) e = refl
 no_number (Queue t k p) e = absurd (omega (arith, e))
 no_number (Grant t p) e = absurd (omega (arith, e))
@@ -132,7 +132,7 @@ module _ (laws : Laws) (m m' : Kept) (l : Label) (on : IsEnabled m l) (stands' :
   first_is : m'.first ≡ m.first
   first_is = sym stands'.shows.head.before ∙ ap suc (changes (plan_actors m.plan.program) m.plan.workers on.state on.next l on.enabled).before ∙ on.stands.shows.head.before
 
-  keeps : (new_cells l.act ≡ 1 → ⊥) → KeepsOwn (on.state.cells (ticket_of l.act)) (on.next.cells (ticket_of l.act)) (number_of l.act)
+  keeps : (new_cells l.act ≡ 1 → ⊥) → KeepsOwn (on.state.cells (ticket_of l.act)) (on.next.cells (ticket_of l.act)) (act_number l.act)
   keeps apart = own_by (plan_actors m.plan.program) m.plan.workers on.state on.next l.worker l.host l.act on.enabled apart
 
   -- an admitted ticket had no cell
@@ -171,9 +171,9 @@ module _ (laws : Laws) (m m' : Kept) (l : Label) (on : IsEnabled m l) (stands' :
     ];
   }
     where
-      by_own : (number_of l.act ≡ 0) ⊎ ((x : Mail Fields) × ((on.state.cells (ticket_of l.act)).mails (number_of l.act) ≡ Some x)) → number_of l.act ≤ sent_at m (ticket_of l.act)
+      by_own : (act_number l.act ≡ 0) ⊎ ((x : Mail Fields) × ((on.state.cells (ticket_of l.act)).mails (act_number l.act) ≡ Some x)) → act_number l.act ≤ sent_at m (ticket_of l.act)
       by_own (inl none) = omega (arith, none)
-      by_own (inr some) = number_sent laws m on.start on.state on.stands (ticket_of l.act) (number_of l.act) some.0 some.1
+      by_own (inr some) = number_sent laws m on.start on.state on.stands (ticket_of l.act) (act_number l.act) some.0 some.1
 
 -- ---- over each call
 pub mails_taken : (laws : Laws) (m m' : Kept) (l : Label) → IsEnabled m l → Takes m m' l → KeepsMails m m' l

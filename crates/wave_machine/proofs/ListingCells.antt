@@ -20,7 +20,7 @@ use Rattle.wave_states.specs.Labels
 use Rattle.wave_states.specs.States.{Hand}
 use Rattle.wave_states.specs.Steps.{Route, Deliver, Born, Wait, Forward}
 use Rattle.wave_theory.proofs.Basics.{none_not, some_same}
-use Rattle.wave_theory.specs.Listed.{kind_of}
+use Rattle.wave_theory.specs.Listed.{kind_rank}
 use Rattle.code_actor.specs.CodeActors.{Fields}
 use Rattle.plan_actors.specs.PlanActors as actors
 use Rattle.plan_actors.specs.PlanActors.{plan_actors}
@@ -33,7 +33,7 @@ use Rattle.wave_machine.proofs.ListingLists.{filter_flat, flat_none, flat_same}
 -- ---- what is of which kind
 
 abbrev pub is_kind : ℕ → Label → Bool
-is_kind n l = kind_of l.act == n
+is_kind n l = kind_rank l.act == n
 
 pub unless : (l : Label) (b : Bool) → b ≡ false → cond b (l ∷ []) [] ≡ []
 unless l b e = ap (λ c. cond c (l ∷ []) []) e

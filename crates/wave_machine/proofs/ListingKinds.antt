@@ -29,7 +29,7 @@ use Rattle.wave_states.specs.Steps.{in_line, part_of, Deliver, Born, Wait, route
 use Rattle.std.proofs.lemmas.Bool.Decides.{nat_tests}
 use Rattle.wave_theory.proofs.Basics.{none_not, some_not, some_same}
 use Rattle.wave_theory.proofs.Opened.{queues as queues_found}
-use Rattle.wave_theory.specs.Listed.{kind_of}
+use Rattle.wave_theory.specs.Listed.{kind_rank}
 use Rattle.wave_base.specs.declared.script.Line.{Line}
 use Rattle.wave_states.specs.Actors.{Actors}
 use Rattle.wave_theory.proofs.Frames.{option_some}
@@ -209,7 +209,7 @@ module _ (m : Kept) (start : Start) (s : TheState) (shows : Shows m s) (list : C
           ap (λ o. takes sys m.plan.workers s w (by_event o (λ e. flat_map (λ k. by_mail ((s.cells t).mails k) (f t k)) (tickets_from 1 e.sent)))) is.event
           ∙ takes_flat (λ k. by_mail ((s.cells t).mails k) (f t k)) (tickets_from 1 is.desk.event.sent)
           ∙ flat_same (λ k. takes sys m.plan.workers s w (by_mail ((s.cells t).mails k) (f t k))) (λ k. of_kind n (mail_labels m.stores w t k (mail_in c.outbox.mails k))) one (tickets_from 1 is.desk.event.sent)
-          ∙ sym (filter_flat (λ l. kind_of l.act == n) (λ k. mail_labels m.stores w t k (mail_in c.outbox.mails k)) (tickets_from 1 is.desk.event.sent))
+          ∙ sym (filter_flat (λ l. kind_rank l.act == n) (λ k. mail_labels m.stores w t k (mail_in c.outbox.mails k)) (tickets_from 1 is.desk.event.sent))
           ∙ ap (λ j. of_kind n (flat_map (λ k. mail_labels m.stores w t k (mail_in c.outbox.mails k)) (tickets_from 1 j))) is.stands.sent
         where
           by_pair : (k : ℕ) (o : Option Envelope) (r : Option (Mail Fields)) → Carries o r → (s.cells t).mails k ≡ r → takes sys m.plan.workers s w (by_mail r (f t k)) ≡ of_kind n (mail_labels m.stores w t k o)

@@ -6,10 +6,10 @@ use Rattle.std.proofs.lemmas.Bool.Decides.{nat_tests}
 use Rattle.std.proofs.lemmas.List.Elements.{filter-append}
 use Rattle.wave_base.specs.Fold.{tickets_from}
 use Rattle.wave_states.specs.Labels.{Label, ticket_of}
-use Rattle.wave_theory.specs.Listed.{kind_of}
+use Rattle.wave_theory.specs.Listed.{kind_rank}
 use Rattle.wave_theory.proofs.Basics.{number_cases, number_is, number_self, not_same, differ}
 use Rattle.wave_machine.specs.inner.Asking.{in_order, of_kind}
-use Rattle.wave_machine.specs.inner.Index.{High, IsBefore, IsUpTo, Low, Parted, is_before, number_of, under}
+use Rattle.wave_machine.specs.inner.Index.{High, IsBefore, IsUpTo, Low, Parted, is_before, act_number, under}
 
 -- ---- what holds of all of a list
 module _ {X : Type 0} (P : X → Type 0) where
@@ -91,7 +91,7 @@ pub upper_same : (k : ℕ) (xs ys : List Label) → ((j : ℕ) → j ≢ k → o
 upper_same k xs ys h = same_numbered (λ j. of_kind j xs) (λ j. of_kind j ys) (suc k) (10 - suc k) (λ j l b. h j (omega (arith, l)))
 
 pub kind_append : (k : ℕ) (xs ys : List Label) → of_kind k (xs ++ ys) ≡ of_kind k xs ++ of_kind k ys
-kind_append k xs ys = filter-append (λ (l : Label). kind_of l.act == k) xs ys
+kind_append k xs ys = filter-append (λ (l : Label). kind_rank l.act == k) xs ys
 
 -- ---- the parts of the list about a kind and a slot
 less : (a b : ℕ) → a < b → nat_lt a b ≡ true
@@ -140,21 +140,21 @@ module _ (kind t k : ℕ) where
   Fails l = under kind t k l.act ≡ false
 
   abbrev own_before : Label → Bool
-  own_before l = is_before (ticket_of l.act) (number_of l.act) t k
+  own_before l = is_before (ticket_of l.act) (act_number l.act) t k
 
   all_lower : (ls : List Label) → AllByRecursion Passes (lower kind ls)
   all_lower ls = all_numbered Passes (λ j. of_kind j ls) 0 kind (λ j low high.
-      all_filter Passes (λ l. Unit {0}) (λ (l : Label). kind_of l.act == j) (λ l e u. let is : kind_of l.act ≡ j = number_is (kind_of l.act) j e in under_lower kind (kind_of l.act) (own_before l) (omega (arith, is, high))) ls (always ls))
+      all_filter Passes (λ l. Unit {0}) (λ (l : Label). kind_rank l.act == j) (λ l e u. let is : kind_rank l.act ≡ j = number_is (kind_rank l.act) j e in under_lower kind (kind_rank l.act) (own_before l) (omega (arith, is, high))) ls (always ls))
 
   all_upper : (ls : List Label) → AllByRecursion Fails (upper kind ls)
   all_upper ls = all_numbered Fails (λ j. of_kind j ls) (suc kind) (10 - suc kind) (λ j low high.
-      all_filter Fails (λ l. Unit {0}) (λ (l : Label). kind_of l.act == j) (λ l e u. let is : kind_of l.act ≡ j = number_is (kind_of l.act) j e in under_upper kind (kind_of l.act) (own_before l) (omega (arith, is, low))) ls (always ls))
+      all_filter Fails (λ l. Unit {0}) (λ (l : Label). kind_rank l.act == j) (λ l e u. let is : kind_rank l.act ≡ j = number_is (kind_rank l.act) j e in under_upper kind (kind_rank l.act) (own_before l) (omega (arith, is, low))) ls (always ls))
 
   all_low : (ls : List Label) → AllByRecursion (Low kind t k) ls → AllByRecursion Passes (of_kind kind ls)
-  all_low ls a = all_filter Passes (Low kind t k) (λ (l : Label). kind_of l.act == kind) (λ l e u. let is : kind_of l.act ≡ kind = number_is (kind_of l.act) kind e in under_own kind (kind_of l.act) (own_before l) is (before_true (ticket_of l.act) (number_of l.act) t k (u is))) ls a
+  all_low ls a = all_filter Passes (Low kind t k) (λ (l : Label). kind_rank l.act == kind) (λ l e u. let is : kind_rank l.act ≡ kind = number_is (kind_rank l.act) kind e in under_own kind (kind_rank l.act) (own_before l) is (before_true (ticket_of l.act) (act_number l.act) t k (u is))) ls a
 
   all_high : (ls : List Label) → AllByRecursion (High kind t k) ls → AllByRecursion Fails (of_kind kind ls)
-  all_high ls a = all_filter Fails (High kind t k) (λ (l : Label). kind_of l.act == kind) (λ l e u. let is : kind_of l.act ≡ kind = number_is (kind_of l.act) kind e in past_own kind (kind_of l.act) (own_before l) is (before_false (ticket_of l.act) (number_of l.act) t k (u is))) ls a
+  all_high ls a = all_filter Fails (High kind t k) (λ (l : Label). kind_rank l.act == kind) (λ l e u. let is : kind_rank l.act ≡ kind = number_is (kind_rank l.act) kind e in past_own kind (kind_rank l.act) (own_before l) is (before_false (ticket_of l.act) (act_number l.act) t k (u is))) ls a
 
   pub parted : (ls u v : List Label) → kind < 10 → of_kind kind ls ≡ of_kind kind u ++ of_kind kind v → AllByRecursion (Low kind t k) u → AllByRecursion (High kind t k) v → Parted (in_order ls) kind t k (lower kind ls ++ of_kind kind u) (of_kind kind v ++ upper kind ls)
   parted ls u v small are low high = record {
@@ -164,22 +164,22 @@ module _ (kind t k : ℕ) where
   }
 
 -- ---- one more of a kind
-not_kind : (j : ℕ) (x : Label) → j ≢ kind_of x.act → of_kind j (x ∷ []) ≡ []
-not_kind j x n = ap (λ b. cond b (x ∷ []) []) (differ (kind_of x.act) j (λ e. n (sym e)))
+not_kind : (j : ℕ) (x : Label) → j ≢ kind_rank x.act → of_kind j (x ∷ []) ≡ []
+not_kind j x n = ap (λ b. cond b (x ∷ []) []) (differ (kind_rank x.act) j (λ e. n (sym e)))
 
-pub own_kind : (x : Label) → of_kind (kind_of x.act) (x ∷ []) ≡ x ∷ []
-own_kind x = ap (λ b. cond b (x ∷ []) []) (number_self (kind_of x.act))
+pub own_kind : (x : Label) → of_kind (kind_rank x.act) (x ∷ []) ≡ x ∷ []
+own_kind x = ap (λ b. cond b (x ∷ []) []) (number_self (kind_rank x.act))
 
 module _ (u v : List Label) (x : Label) where
-  all_kinds_but : (j : ℕ) → j ≢ kind_of x.act → of_kind j ((u ++ x ∷ []) ++ v) ≡ of_kind j (u ++ v)
+  all_kinds_but : (j : ℕ) → j ≢ kind_rank x.act → of_kind j ((u ++ x ∷ []) ++ v) ≡ of_kind j (u ++ v)
   all_kinds_but j n =
       kind_append j (u ++ x ∷ []) v
       ∙ ap (λ r. r ++ of_kind j v) (kind_append j u (x ∷ []) ∙ ap (λ r. of_kind j u ++ r) (not_kind j x n) ∙ append-nil (of_kind j u))
       ∙ sym (kind_append j u v)
 
-  pub one_more : kind_of x.act < 10 → in_order ((u ++ x ∷ []) ++ v) ≡ (lower (kind_of x.act) (u ++ v) ++ of_kind (kind_of x.act) u) ++ x ∷ (of_kind (kind_of x.act) v ++ upper (kind_of x.act) (u ++ v))
+  pub one_more : kind_rank x.act < 10 → in_order ((u ++ x ∷ []) ++ v) ≡ (lower (kind_rank x.act) (u ++ v) ++ of_kind (kind_rank x.act) u) ++ x ∷ (of_kind (kind_rank x.act) v ++ upper (kind_rank x.act) (u ++ v))
   one_more small =
-      let k = kind_of x.act in
+      let k = kind_rank x.act in
       let ls = (u ++ x ∷ []) ++ v in
       let own : of_kind k ls ≡ (of_kind k u ++ x ∷ []) ++ of_kind k v = kind_append k (u ++ x ∷ []) v ∙ ap (λ r. r ++ of_kind k v) (kind_append k u (x ∷ []) ∙ ap (λ r. of_kind k u ++ r) (own_kind x)) in
       kinds_are k ls small

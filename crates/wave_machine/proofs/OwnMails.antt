@@ -15,7 +15,7 @@ use Rattle.wave_states.specs.Desks.{Desk, give_up, kept_of, left_of, not_at, not
 use Rattle.wave_theory.proofs.Basics.{differ, if_some, none_not, set_at, set_there, some_same}
 use Rattle.wave_theory.proofs.Opened.{frees, grants, lands, passes, queues, starts, stopping, visits}
 use Rattle.wave_effects.specs.Apart.{new_cells}
-use Rattle.wave_machine.specs.inner.Index.{number_of}
+use Rattle.wave_machine.specs.inner.Index.{act_number}
 use Rattle.wave_effects.proofs.CellParts.{same_event}
 use Rattle.wave_effects.proofs.Headed.{commits}
 use Rattle.wave_effects.proofs.Opening.{free_found, grant_found, land_found, left_by, pass_found, queue_found, visit_found}
@@ -163,7 +163,7 @@ module _ {A F R J : Type 0} (sys : Actors A F R J) (workers : ℕ) (s s' : State
       by_found None k = absurd (none_not k)
       by_found (Some z) k = ap (λ (b : Bench A F R). Some b.part) (some_same (record { part = z; hand = None }) y k)
 
-  pub own_by : (a : Act) → Took a → (new_cells a ≡ 1 → ⊥) → KeepsOwn (s.cells (ticket_of a)) (s'.cells (ticket_of a)) (number_of a)
+  pub own_by : (a : Act) → Took a → (new_cells a ≡ 1 → ⊥) → KeepsOwn (s.cells (ticket_of a)) (s'.cells (ticket_of a)) (act_number a)
   own_by (Admit t) e apart = absurd (apart refl)
   own_by (Commit t) e apart =
       subst (λ (z : State A F R J). KeepsOwn (s.cells t) (z.cells t) 0) (commits sys workers s s' w host t e).gives

@@ -18,7 +18,7 @@ use Rattle.migration_core.specs.declared.mail.Letter.{Letter}
 use Rattle.migration_core.specs.declared.mail.Letter.TheVariants as letter
 use Rattle.wave_states.specs.Labels.{Act, Label, Grant, ticket_of}
 use Rattle.wave_states.specs.Steps.{Route, Deliver, Born, Wait, Forward}
-use Rattle.wave_theory.specs.Listed.{IsIn, kind_of}
+use Rattle.wave_theory.specs.Listed.{IsIn, kind_rank}
 use Rattle.wave_theory.proofs.Basics.{differ, none_not, not_same, number_cases, number_self}
 use Rattle.wave_effects.specs.declared.actor.Actor.{Actor}
 use Rattle.wave_machine.specs.declared.ready.Ready.{Ready}
@@ -27,14 +27,14 @@ use Rattle.wave_effects.specs.Machines.{Kept}
 use Rattle.wave_machine.specs.inner.Asking.{enter_act, grant_labels, in_order, is_next, label_at, labels_in, mail_act, mail_labels, mails_labels, route_at, start_labels, status_labels}
 use Rattle.wave_effects.specs.Keeping.{place_in}
 use Rattle.wave_machine.specs.inner.Done.{AreDone}
-use Rattle.wave_machine.specs.inner.Index.{AreOwn, Below, From, IsBelow, IsFrom, IsOwn, Lists, asked_as, asked_at, asked_by, asked_of, by_none, by_part, by_slot, cell_at, kinds_at, number_of, numbers_in, share_of, slot_at, slot_by, weight_of, with_next, with_slot}
+use Rattle.wave_machine.specs.inner.Index.{AreOwn, Below, From, IsBelow, IsFrom, IsOwn, Lists, asked_as, asked_at, asked_by, asked_of, by_none, by_part, by_slot, cell_at, kinds_at, act_number, numbers_in, share_of, slot_at, slot_by, weight_of, with_next, with_slot}
 use Rattle.wave_machine.proofs.ListingLists.{flat_none, flat_same}
 use Rattle.wave_machine.proofs.Ordering.{all_flat, all_map, all_numbered, flat_append, middle_of, numbers_append, same_numbered}
 
 -- ---- whose they are
 abbrev OwnAct : ℕ → ℕ → Option Act → Type 0
 OwnAct t k None = Unit {0}
-OwnAct t k (Some a) = (ticket_of a ≡ t) × ((number_of a ≡ k) × IsIn (kinds_at k) (kind_of a))
+OwnAct t k (Some a) = (ticket_of a ≡ t) × ((act_number a ≡ k) × IsIn (kinds_at k) (kind_rank a))
 
 own_label : (t k h : ℕ) (o : Option Act) → OwnAct t k o → AllByRecursion (IsOwn t k) (label_at 0 h o)
 own_label t k h None a = tt

@@ -3,8 +3,8 @@ use Rattle.std.proofs.Common.{◌≡◌, ◌∙◌, ℕ, zero, suc, ◌+◌, ◌
 use Rattle.std.specs.Prelude.{slice_get, is_ok, IsOk, if◌then◌else◌}
 use Rattle.std.specs.List.{AllByRecursion, insert}
 use Rattle.wave_states.specs.Labels.{Act, Label, ticket_of}
-use Rattle.wave_theory.specs.Listed.{kind_of}
-use Rattle.wave_machine.specs.inner.Index.{Parted, by_none, is_of, number_of, under}
+use Rattle.wave_theory.specs.Listed.{kind_rank}
+use Rattle.wave_machine.specs.inner.Index.{Parted, by_none, is_of, act_number, under}
 use Rattle.wave_machine.specs.declared.ready.Ready.{Ready}
 
 module _ {X : Type 0} (test : X → Bool) where
@@ -91,7 +91,7 @@ done_by r a b h = ap (λ t. if t then a else b) h
 -- ---- what is taken out at a place
 module _ (kind t k : ℕ) where
   abbrev pub is_slot : Act → Bool
-  is_slot a = (kind_of a == kind) && ((ticket_of a == t) && (number_of a == k))
+  is_slot a = (kind_rank a == kind) && ((ticket_of a == t) && (act_number a == k))
 
   abbrev pub first_is : List Label → Bool
   first_is [] = false

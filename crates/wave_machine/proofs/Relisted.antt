@@ -3,15 +3,15 @@ use Rattle.std.proofs.Common.{◌≡◌, ◌≢◌, ◌∙◌, ◌⊎◌, inl, i
 use Rattle.std.specs.List.{AllByRecursion}
 use Rattle.wave_labels.specs.declared.label.Label as program
 use Rattle.wave_states.specs.Labels.{Act, Label, Admit, Queue, Grant, Visit, Start, Stop, Free, Pass, Land, Commit, ticket_of}
-use Rattle.wave_theory.specs.Listed.{IsIn, kind_of}
+use Rattle.wave_theory.specs.Listed.{IsIn, kind_rank}
 use Rattle.wave_machine.specs.declared.ready.Ready.{Ready}
 use Rattle.wave_machine.specs.inner.Asking.{in_order, of_kind, labels_in}
-use Rattle.wave_machine.specs.inner.Index.{Below, Cuts, CutsKind, From, Goes, High, IsBelow, IsFrom, IsInner, IsOwn, IsUpTo, Lists, Low, Parted, by_none, kinds_at, number_of, without}
+use Rattle.wave_machine.specs.inner.Index.{Below, Cuts, CutsKind, From, Goes, High, IsBelow, IsFrom, IsInner, IsOwn, IsUpTo, Lists, Low, Parted, by_none, kinds_at, act_number, without}
 use Rattle.wave_theory.proofs.Basics.{and_both, differ, number_cases, number_is, number_self}
 use Rattle.wave_machine.proofs.Ordering.{always, all_append, all_filter, all_map, all_numbered, kind_append, lower, one_kind_less, one_more, parted, upper}
 use Rattle.wave_machine.proofs.Parting.{is_slot}
 
-pub kind_small : (a : Act) → kind_of a < 10
+pub kind_small : (a : Act) → kind_rank a < 10
 kind_small (Admit t) = omega arith
 kind_small (Queue t k p) = omega arith
 kind_small (Grant t p) = omega arith
@@ -24,12 +24,12 @@ kind_small (Land t k p) = omega arith
 kind_small (Commit t) = omega arith
 
 -- ---- one more
-pub one_put : (old new : List Ready) (r : Ready) (l : Label) (u v : List Label) → by_none r ≡ l → AllByRecursion (Low (kind_of l.act) (ticket_of l.act) (number_of l.act)) u → AllByRecursion (High (kind_of l.act) (ticket_of l.act) (number_of l.act)) v → map by_none old ≡ in_order (u ++ v)
-    → ((low high : List Label) → Parted (map by_none old) (kind_of l.act) (ticket_of l.act) (number_of l.act) low high → map by_none new ≡ low ++ by_none r ∷ high) → map by_none new ≡ in_order ((u ++ l ∷ []) ++ v)
+pub one_put : (old new : List Ready) (r : Ready) (l : Label) (u v : List Label) → by_none r ≡ l → AllByRecursion (Low (kind_rank l.act) (ticket_of l.act) (act_number l.act)) u → AllByRecursion (High (kind_rank l.act) (ticket_of l.act) (act_number l.act)) v → map by_none old ≡ in_order (u ++ v)
+    → ((low high : List Label) → Parted (map by_none old) (kind_rank l.act) (ticket_of l.act) (act_number l.act) low high → map by_none new ≡ low ++ by_none r ∷ high) → map by_none new ≡ in_order ((u ++ l ∷ []) ++ v)
 one_put old new r l u v same low high was put =
-    let kind = kind_of l.act in
+    let kind = kind_rank l.act in
     let t = ticket_of l.act in
-    let k = number_of l.act in
+    let k = act_number l.act in
     let p : Parted (map by_none old) kind t k (lower kind (u ++ v) ++ of_kind kind u) (of_kind kind v ++ upper kind (u ++ v)) =
     subst (λ ls. Parted ls kind t k (lower kind (u ++ v) ++ of_kind kind u) (of_kind kind v ++ upper kind (u ++ v))) (sym was) (parted kind t k (u ++ v) u v (kind_small l.act) (kind_append kind u v) low high) in
     put (lower kind (u ++ v) ++ of_kind kind u) (of_kind kind v ++ upper kind (u ++ v)) p
@@ -43,10 +43,10 @@ none_put old u v e = e ∙ ap (λ r. in_order (r ++ v)) (sym (append-nil u))
 pub own_inner : (t k : ℕ) (l : Label) → IsOwn t k l → IsInner l
 own_inner t k l own = by_number k own.kind
   where
-    at : (n : ℕ) → 1 ≤ n → n ≤ 8 → n ≡ kind_of l.act → IsInner l
+    at : (n : ℕ) → 1 ≤ n → n ≤ 8 → n ≡ kind_rank l.act → IsInner l
     at n low high e = (omega (arith, low, e), omega (arith, high, e))
 
-    by_number : (j : ℕ) → IsIn (kinds_at j) (kind_of l.act) → IsInner l
+    by_number : (j : ℕ) → IsIn (kinds_at j) (kind_rank l.act) → IsInner l
     by_number zero (inl e) = at 2 (omega arith) (omega arith) e
     by_number zero (inr (inl e)) = at 4 (omega arith) (omega arith) e
     by_number zero (inr (inr h)) = absurd h
@@ -57,7 +57,7 @@ own_inner t k l own = by_number k own.kind
     by_number (suc j) (inr (inr (inr (inr (inl e))))) = at 8 (omega arith) (omega arith) e
     by_number (suc j) (inr (inr (inr (inr (inr h))))) = absurd h
 
-inner_as : (l x : Label) → IsInner l → kind_of x.act ≡ kind_of l.act → IsInner x
+inner_as : (l x : Label) → IsInner l → kind_rank x.act ≡ kind_rank l.act → IsInner x
 inner_as l x h e = let low = h.0 in let high = h.1 in (omega (arith, e, low), omega (arith, e, high))
 
 pub own_goes : (t k : ℕ) (ls u v : List Label) → AllByRecursion (IsOwn t k) ls → Below t k u → From t (k + 1) v → Goes ls u v
@@ -68,8 +68,8 @@ own_goes t k (l ∷ ls) u v own a b =
     let inner = own_inner t k l own.0 in (
       own.0.worker,
       (
-        all_map (Low (kind_of l.act) (ticket_of l.act) (number_of l.act)) (IsBelow t k) (λ x h e. record { ticket = let up = (h (inner_as l x inner e)).ticket in omega (arith, it, up); number = λ same. let up = (h (inner_as l x inner e)).number (same ∙ it) in omega (arith, is, up) }) u a,
-        all_map (High (kind_of l.act) (ticket_of l.act) (number_of l.act)) (IsFrom t (k + 1)) (λ x h e. record { ticket = let up = (h (inner_as l x inner e)).ticket in omega (arith, it, up); number = λ same. let up = (h (inner_as l x inner e)).number (sym it ∙ same) in omega (arith, is, up) }) v b,
+        all_map (Low (kind_rank l.act) (ticket_of l.act) (act_number l.act)) (IsBelow t k) (λ x h e. record { ticket = let up = (h (inner_as l x inner e)).ticket in omega (arith, it, up); number = λ same. let up = (h (inner_as l x inner e)).number (same ∙ it) in omega (arith, is, up) }) u a,
+        all_map (High (kind_rank l.act) (ticket_of l.act) (act_number l.act)) (IsFrom t (k + 1)) (λ x h e. record { ticket = let up = (h (inner_as l x inner e)).ticket in omega (arith, it, up); number = λ same. let up = (h (inner_as l x inner e)).number (sym it ∙ same) in omega (arith, is, up) }) v b,
       ),
     )
 
@@ -103,22 +103,22 @@ lists_put t k old new o x same own put = record {
 -- ---- what is taken out of a slot, kind by kind
 but_kind : (kind : ℕ) (x : List Label) → of_kind kind (without kind x) ≡ []
 but_kind kind [] = refl
-but_kind kind (l ∷ x) = by_test (kind_of l.act == kind) refl (but_kind kind x)
+but_kind kind (l ∷ x) = by_test (kind_rank l.act == kind) refl (but_kind kind x)
   where
-    by_test : (b : Bool) → (kind_of l.act == kind) ≡ b → of_kind kind (without kind x) ≡ [] → of_kind kind (cond (not b) (l ∷ without kind x) (without kind x)) ≡ []
+    by_test : (b : Bool) → (kind_rank l.act == kind) ≡ b → of_kind kind (without kind x) ≡ [] → of_kind kind (cond (not b) (l ∷ without kind x) (without kind x)) ≡ []
     by_test true e r = r
     by_test false e r = ap (λ c. cond c (l ∷ of_kind kind (without kind x)) (of_kind kind (without kind x))) e ∙ r
 
 other_kinds : (j kind : ℕ) (x : List Label) → j ≢ kind → of_kind j (without kind x) ≡ of_kind j x
 other_kinds j kind [] d = refl
-other_kinds j kind (l ∷ x) d = by_test (kind_of l.act == kind) refl (other_kinds j kind x d)
+other_kinds j kind (l ∷ x) d = by_test (kind_rank l.act == kind) refl (other_kinds j kind x d)
   where
-    by_test : (b : Bool) → (kind_of l.act == kind) ≡ b → of_kind j (without kind x) ≡ of_kind j x → of_kind j (cond (not b) (l ∷ without kind x) (without kind x)) ≡ cond (kind_of l.act == j) (l ∷ of_kind j x) (of_kind j x)
-    by_test false e r = ap (λ y. cond (kind_of l.act == j) (l ∷ y) y) r
-    by_test true e r = r ∙ sym (ap (λ c. cond c (l ∷ of_kind j x) (of_kind j x)) (differ (kind_of l.act) j (λ same. d (sym same ∙ number_is (kind_of l.act) kind e))))
+    by_test : (b : Bool) → (kind_rank l.act == kind) ≡ b → of_kind j (without kind x) ≡ of_kind j x → of_kind j (cond (not b) (l ∷ without kind x) (without kind x)) ≡ cond (kind_rank l.act == j) (l ∷ of_kind j x) (of_kind j x)
+    by_test false e r = ap (λ y. cond (kind_rank l.act == j) (l ∷ y) y) r
+    by_test true e r = r ∙ sym (ap (λ c. cond c (l ∷ of_kind j x) (of_kind j x)) (differ (kind_rank l.act) j (λ same. d (sym same ∙ number_is (kind_rank l.act) kind e))))
 
 module _ (kind t k : ℕ) (above : 1 ≤ kind) (under : kind ≤ 8) where
-  inner_at : (l : Label) → kind_of l.act ≡ kind → IsInner l
+  inner_at : (l : Label) → kind_rank l.act ≡ kind → IsInner l
   inner_at l e = (omega (arith, e, above), omega (arith, e, under))
 
   abbrev Here : Label → Type 0
@@ -128,26 +128,26 @@ module _ (kind t k : ℕ) (above : 1 ≤ kind) (under : kind ≤ 8) where
   Elsewhere l = is_slot kind t k l.act ≡ false
 
   own_here : (x : List Label) → AllByRecursion (IsOwn t k) x → AllByRecursion Here (of_kind kind x)
-  own_here x own = all_filter Here (IsOwn t k) (λ (l : Label). kind_of l.act == kind) (λ l e h. and_both (kind_of l.act == kind) ((ticket_of l.act == t) && (number_of l.act == k)) e
-      (and_both (ticket_of l.act == t) (number_of l.act == k) (ap (λ n. n == t) h.ticket ∙ number_self t) (ap (λ n. n == k) h.number ∙ number_self k))) x own
+  own_here x own = all_filter Here (IsOwn t k) (λ (l : Label). kind_rank l.act == kind) (λ l e h. and_both (kind_rank l.act == kind) ((ticket_of l.act == t) && (act_number l.act == k)) e
+      (and_both (ticket_of l.act == t) (act_number l.act == k) (ap (λ n. n == t) h.ticket ∙ number_self t) (ap (λ n. n == k) h.number ∙ number_self k))) x own
 
   behind_elsewhere : (v : List Label) → From t (k + 1) v → AllByRecursion Elsewhere (of_kind kind v)
-  behind_elsewhere v past = all_filter Elsewhere (IsFrom t (k + 1)) (λ (l : Label). kind_of l.act == kind) (λ l e h. by_ticket l e (h (inner_at l (number_is (kind_of l.act) kind e))) (number_cases (ticket_of l.act) t)) v past
+  behind_elsewhere v past = all_filter Elsewhere (IsFrom t (k + 1)) (λ (l : Label). kind_rank l.act == kind) (λ l e h. by_ticket l e (h (inner_at l (number_is (kind_rank l.act) kind e))) (number_cases (ticket_of l.act) t)) v past
     where
-      by_ticket : (l : Label) → (kind_of l.act == kind) ≡ true → IsUpTo t (k + 1) (ticket_of l.act) (number_of l.act) → (ticket_of l.act ≡ t) ⊎ ((ticket_of l.act == t) ≡ false) → Elsewhere l
-      by_ticket l e h (inl it) = λ i. e i && (same_number (ticket_of l.act) t it i && differ (number_of l.act) k (λ is. let up = h.number (sym it) in omega (arith, up, is)) i)
+      by_ticket : (l : Label) → (kind_rank l.act == kind) ≡ true → IsUpTo t (k + 1) (ticket_of l.act) (act_number l.act) → (ticket_of l.act ≡ t) ⊎ ((ticket_of l.act == t) ≡ false) → Elsewhere l
+      by_ticket l e h (inl it) = λ i. e i && (same_number (ticket_of l.act) t it i && differ (act_number l.act) k (λ is. let up = h.number (sym it) in omega (arith, up, is)) i)
         where
           same_number : (a b : ℕ) → a ≡ b → (a == b) ≡ true
           same_number a b q = ap (λ n. n == b) q ∙ number_self b
-      by_ticket l e h (inr d) = λ i. e i && (d i && (number_of l.act == k))
+      by_ticket l e h (inr d) = λ i. e i && (d i && (act_number l.act == k))
 
   above_elsewhere : (ls : List Label) → AllByRecursion Elsewhere (upper kind ls)
   above_elsewhere ls = all_numbered Elsewhere (λ j. of_kind j ls) (suc kind) (10 - suc kind) (λ j low high.
-      all_filter Elsewhere (λ l. Unit {0}) (λ (l : Label). kind_of l.act == j) (λ l e w. ap (λ b. b && ((ticket_of l.act == t) && (number_of l.act == k))) (differ (kind_of l.act) kind (λ is. let it : kind_of l.act ≡ j = number_is (kind_of l.act) j e in omega (arith, is, it, low)))) ls (always ls))
+      all_filter Elsewhere (λ l. Unit {0}) (λ (l : Label). kind_rank l.act == j) (λ l e w. ap (λ b. b && ((ticket_of l.act == t) && (act_number l.act == k))) (differ (kind_rank l.act) kind (λ is. let it : kind_rank l.act ≡ j = number_is (kind_rank l.act) j e in omega (arith, is, it, low)))) ls (always ls))
 
   few_kinds : (x : List Label) → length x ≤ 1 → length (of_kind kind x) ≤ 1
   few_kinds [] few = omega arith
-  few_kinds (l ∷ []) few = by_test (kind_of l.act == kind)
+  few_kinds (l ∷ []) few = by_test (kind_rank l.act == kind)
     where
       by_test : (b : Bool) → length (cond b (l ∷ []) []) ≤ 1
       by_test true = omega arith
@@ -192,7 +192,7 @@ outs_first t k xs = record { parts = λ u x v a own few b e. e }
 
 fewer : (kind : ℕ) (x : List Label) → length (without kind x) ≤ length x
 fewer kind [] = omega arith
-fewer kind (l ∷ x) = by_test (not (kind_of l.act == kind)) (fewer kind x)
+fewer kind (l ∷ x) = by_test (not (kind_rank l.act == kind)) (fewer kind x)
   where
     by_test : (b : Bool) → length (without kind x) ≤ length x → length (cond b (l ∷ without kind x) (without kind x)) ≤ suc (length x)
     by_test true r = omega (arith, r)
@@ -200,7 +200,7 @@ fewer kind (l ∷ x) = by_test (not (kind_of l.act == kind)) (fewer kind x)
 
 module _ (P : Label → Type 0) where
   all_without : (kind : ℕ) (x : List Label) → AllByRecursion P x → AllByRecursion P (without kind x)
-  all_without kind x a = all_filter P P (λ (l : Label). not (kind_of l.act == kind)) (λ l e h. h) x a
+  all_without kind x a = all_filter P P (λ (l : Label). not (kind_rank l.act == kind)) (λ l e h. h) x a
 
   all_without_all : (kinds : List ℕ) (x : List Label) → AllByRecursion P x → AllByRecursion P (without_all kinds x)
   all_without_all [] x a = a
@@ -223,10 +223,10 @@ outs_more kinds kind t k old mid new was cut = record {
 }
 
 -- when all kinds that are asked for are out, nothing is left
-none_left : (kinds : List ℕ) (x : List Label) → AllByRecursion (λ (l : Label). IsIn kinds (kind_of l.act)) x → without_all kinds x ≡ []
+none_left : (kinds : List ℕ) (x : List Label) → AllByRecursion (λ (l : Label). IsIn kinds (kind_rank l.act)) x → without_all kinds x ≡ []
 none_left [] [] a = refl
 none_left [] (l ∷ x) a = absurd a.0
-none_left (kind ∷ kinds) x a = none_left kinds (without kind x) (all_filter (λ (l : Label). IsIn kinds (kind_of l.act)) (λ (l : Label). IsIn (kind ∷ kinds) (kind_of l.act)) (λ (l : Label). not (kind_of l.act == kind)) (λ l e h. elim h [
+none_left (kind ∷ kinds) x a = none_left kinds (without kind x) (all_filter (λ (l : Label). IsIn kinds (kind_rank l.act)) (λ (l : Label). IsIn (kind ∷ kinds) (kind_rank l.act)) (λ (l : Label). not (kind_rank l.act == kind)) (λ l e h. elim h [
   | inl is ↦ absurd (true≢false (sym e ∙ ap (λ b. not b) (ap (λ n. n == kind) (sym is) ∙ number_self kind)))
   | inr more ↦ more
 ]) x a)
@@ -234,7 +234,7 @@ none_left (kind ∷ kinds) x a = none_left kinds (without kind x) (all_filter (�
 pub outs_last : (t k : ℕ) (old new : List Ready) → Outs (kinds_at k) t k old new → Cuts t k old new
 outs_last t k old new o = record {
   parts = λ u x v a own few b e. o.parts u x v a own few b e
-      ∙ ap (λ r. in_order (u ++ (r ++ v))) (none_left (kinds_at k) x (all_map (λ (l : Label). IsIn (kinds_at k) (kind_of l.act)) (IsOwn t k) (λ l h. h.kind) x own));
+      ∙ ap (λ r. in_order (u ++ (r ++ v))) (none_left (kinds_at k) x (all_map (λ (l : Label). IsIn (kinds_at k) (kind_rank l.act)) (IsOwn t k) (λ l h. h.kind) x own));
 }
 
 kinds_few : (k : ℕ) → AllByRecursion (λ kind. (1 ≤ kind) × (kind ≤ 8)) (kinds_at k)
@@ -251,17 +251,17 @@ kind_few k i l = all_read (λ kind. (1 ≤ kind) × (kind ≤ 8)) (kinds_at k) i
 
 -- ---- the head's, which are the first kind and the last
 abbrev pub IsFirst : Label → Type 0
-IsFirst l = kind_of l.act ≡ 0
+IsFirst l = kind_rank l.act ≡ 0
 
 abbrev pub IsLast : Label → Type 0
-IsLast l = kind_of l.act ≡ 9
+IsLast l = kind_rank l.act ≡ 9
 
-from_first : (l : Label) → IsUpTo 0 0 (ticket_of l.act) (number_of l.act)
+from_first : (l : Label) → IsUpTo 0 0 (ticket_of l.act) (act_number l.act)
 from_first l = record { ticket = omega arith; number = λ e. omega arith }
 
-none_of_kind : (P : Label → Type 0) (k : ℕ) → ((l : Label) → P l → kind_of l.act ≡ k → ⊥) → (ls : List Label) → AllByRecursion P ls → of_kind k ls ≡ []
+none_of_kind : (P : Label → Type 0) (k : ℕ) → ((l : Label) → P l → kind_rank l.act ≡ k → ⊥) → (ls : List Label) → AllByRecursion P ls → of_kind k ls ≡ []
 none_of_kind P k h [] a = refl
-none_of_kind P k h (l ∷ ls) a = ap (λ b. cond b (l ∷ of_kind k ls) (of_kind k ls)) (differ (kind_of l.act) k (h l a.0)) ∙ none_of_kind P k h ls a.1
+none_of_kind P k h (l ∷ ls) a = ap (λ b. cond b (l ∷ of_kind k ls) (of_kind k ls)) (differ (kind_rank l.act) k (h l a.0)) ∙ none_of_kind P k h ls a.1
 
 module _ (a c b : List Label) (firsts : AllByRecursion IsFirst a) (lasts : AllByRecursion IsLast c) (inner : AllByRecursion IsInner b) where
   -- the Commit is what is past all else

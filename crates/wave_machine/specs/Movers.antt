@@ -3,12 +3,12 @@ use Rattle.std.specs.Prelude.{◌-◌, ℕ, Bool, false, Option, Some, None, sli
 use Rattle.wave_base.specs.declared.script.Line.{Line}
 use Rattle.event_cells.specs.declared.cell.JobKind.{JobKind}
 use Rattle.head_tickets.specs.Heads.{next_line}
-use Rattle.wave_effects.specs.Kinds.{is_move, kind_of}
+use Rattle.wave_effects.specs.Kinds.{is_move, job_kind}
 use Rattle.wave_effects.specs.Machines.{Kept}
 
 abbrev pub line_moves : Option Line → Bool
 line_moves None = false
-line_moves (Some line) = is_move (kind_of line)
+line_moves (Some line) = is_move (job_kind line)
 
 -- that of an admitted ticket, else of the one that is admitted next
 abbrev pub moves_by : Option JobKind → Option Line → Bool

@@ -11,7 +11,7 @@ ghost use Rattle.wave_machine.specs.inner.Index.{IsListed, IsPickOf};
 use crate::index::place;
 use crate::listable::states_list;
 use crate::listed::Listed;
-use crate::order::{is_late, kind_of};
+use crate::order::{is_late, kind_rank};
 use crate::ready::Ready;
 use wave_base::{Ticket, Worker};
 use wave_labels::Label;
@@ -53,7 +53,7 @@ fn one_of_last(index: &[Ready]) -> Option<Ready>
             if is_late(&last.act) {
                 return Some(*last);
             }
-            match index.get(place(index, kind_of(&last.act), Ticket(0), 0)) {
+            match index.get(place(index, kind_rank(&last.act), Ticket(0), 0)) {
                 Some(first) => Some(*first),
                 None => Some(*last),
             }

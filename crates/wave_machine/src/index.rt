@@ -6,11 +6,11 @@ ghost use Rattle.std.specs.List.{AllByRecursion};
 ghost use Rattle.wave_labels.specs.Labels.{act_of};
 ghost use Rattle.wave_states.specs.Labels as theory;
 ghost use Rattle.wave_states.specs.Labels.{ticket_of};
-ghost use Rattle.wave_theory.specs.Listed.{kind_of};
+ghost use Rattle.wave_theory.specs.Listed.{kind_rank};
 ghost use Rattle.wave_machine.specs.inner.Asking.{in_order, labels_in};
-ghost use Rattle.wave_machine.specs.inner.Index.{Cuts, CutsKind, Goes, IsInner, Parted, by_none, is_before, is_of, kinds_at, number_of, under};
+ghost use Rattle.wave_machine.specs.inner.Index.{Cuts, CutsKind, Goes, IsInner, Parted, by_none, is_before, is_of, kinds_at, act_number, under};
 
-use crate::order::{COMMIT, FREE, GRANT, LAND, PASS, QUEUE, START, VISIT, kind_of};
+use crate::order::{COMMIT, FREE, GRANT, LAND, PASS, QUEUE, START, VISIT, kind_rank};
 use crate::ready::Ready;
 use wave_base::Ticket;
 use wave_labels::{Act, Label};
@@ -37,16 +37,16 @@ pub(crate) fn place(index: &[Ready], kind: u8, ticket: Ticket, number: u32) -> u
 fn is_under(act: &Act, kind: u8, ticket: Ticket, number: u32) -> bool
     ensures { result ≡ under kind ticket.0 number (act_of act.now) }
 {
-    let own = kind_of(act);
+    let own = kind_rank(act);
     own < kind || own == kind && is_before(act, ticket, number)
 }
 
 // Whether its slot comes before another: by ticket, and of a ticket by number.
 fn is_before(act: &Act, ticket: Ticket, number: u32) -> bool
-    ensures { result ≡ is_before (ticket_of (act_of act.now)) (number_of (act_of act.now)) ticket.0 number }
+    ensures { result ≡ is_before (ticket_of (act_of act.now)) (act_number (act_of act.now)) ticket.0 number }
 {
     let own = ticket_of(act);
-    own.0 < ticket.0 || own.0 == ticket.0 && number_of(act) < number
+    own.0 < ticket.0 || own.0 == ticket.0 && act_number(act) < number
 }
 
 // The ticket of a label: that of its mail, where it has one.
@@ -62,8 +62,8 @@ pub(crate) fn ticket_of(act: &Act) -> Ticket
 }
 
 // The number of a label's mail; 0 where it has none.
-pub(crate) fn number_of(act: &Act) -> u32
-    ensures { result ≡ number_of (act_of act.now) }
+pub(crate) fn act_number(act: &Act) -> u32
+    ensures { result ≡ act_number (act_of act.now) }
 {
     match act {
         Act::Queue(mail, _) | Act::Visit(mail, _) | Act::Free(mail, _) => mail.number,
@@ -75,14 +75,14 @@ pub(crate) fn number_of(act: &Act) -> u32
 // Puts it where it belongs, before any of its kind and its slot.
 fn put(index: &mut Vec<Ready>, ready: Ready)
     requires { vec_len index.old < vec_capacity index.old }
-    ensures parts { (low high : List theory.Label) → Parted (map by_none index.old.items) (kind_of (act_of ready.act)) (ticket_of (act_of ready.act)) (number_of (act_of ready.act)) low high → map by_none index.new.items ≡ low ++ by_none ready ∷ high }
+    ensures parts { (low high : List theory.Label) → Parted (map by_none index.old.items) (kind_rank (act_of ready.act)) (ticket_of (act_of ready.act)) (act_number (act_of ready.act)) low high → map by_none index.new.items ≡ low ++ by_none ready ∷ high }
     ensures len { vec_len index.new ≡ vec_len index.old + 1 }
     ensures capacity { vec_capacity index.new ≡ vec_capacity index.old }
 {
     let (kind, ticket, number) = (
-        kind_of(&ready.act),
+        kind_rank(&ready.act),
         ticket_of(&ready.act),
-        number_of(&ready.act),
+        act_number(&ready.act),
     );
     let at = place(index, kind, ticket, number);
     let _ = index.insert(at, ready);
@@ -147,9 +147,9 @@ pub(crate) fn is_at(index: &[Ready], at: usize, kind: u8, ticket: Ticket, number
 {
     match index.get(at) {
         Some(ready) => {
-            kind_of(&ready.act) == kind
+            kind_rank(&ready.act) == kind
                 && ticket_of(&ready.act) == ticket
-                && number_of(&ready.act) == number
+                && act_number(&ready.act) == number
         }
         None => false,
     }
@@ -157,7 +157,7 @@ pub(crate) fn is_at(index: &[Ready], at: usize, kind: u8, ticket: Ticket, number
 
 // Takes out the Commit that the head asked for, which is the last.
 pub(crate) fn cut_commit(index: &mut Vec<Ready>)
-    ensures parts { (a c b : List theory.Label) → AllByRecursion (λ (l : theory.Label). kind_of l.act ≡ 0) a → AllByRecursion (λ (l : theory.Label). kind_of l.act ≡ 9) c → AllByRecursion IsInner b → map by_none index.old.items ≡ in_order ((a ++ c) ++ b) → map by_none index.new.items ≡ in_order (a ++ b) }
+    ensures parts { (a c b : List theory.Label) → AllByRecursion (λ (l : theory.Label). kind_rank l.act ≡ 0) a → AllByRecursion (λ (l : theory.Label). kind_rank l.act ≡ 9) c → AllByRecursion IsInner b → map by_none index.old.items ≡ in_order ((a ++ c) ++ b) → map by_none index.new.items ≡ in_order (a ++ b) }
     ensures len { vec_len index.new ≤ vec_len index.old }
     ensures capacity { vec_capacity index.new ≡ vec_capacity index.old }
 {
@@ -167,7 +167,7 @@ pub(crate) fn cut_commit(index: &mut Vec<Ready>)
 
 // Takes out the Admit that the head asked for, which is the first.
 pub(crate) fn cut_admit(index: &mut Vec<Ready>)
-    ensures parts { (a b : List theory.Label) → AllByRecursion (λ (l : theory.Label). kind_of l.act ≡ 0) a → AllByRecursion IsInner b → map by_none index.old.items ≡ in_order (a ++ b) → map by_none index.new.items ≡ in_order b }
+    ensures parts { (a b : List theory.Label) → AllByRecursion (λ (l : theory.Label). kind_rank l.act ≡ 0) a → AllByRecursion IsInner b → map by_none index.old.items ≡ in_order (a ++ b) → map by_none index.new.items ≡ in_order b }
     ensures len { vec_len index.new ≤ vec_len index.old }
     ensures capacity { vec_capacity index.new ≡ vec_capacity index.old }
 {

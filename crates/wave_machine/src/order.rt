@@ -2,7 +2,7 @@
 
 ghost use Rattle.std.specs.Prelude.{◌≡◌, nat_lt};
 ghost use Rattle.wave_labels.specs.Labels.{act_of};
-ghost use Rattle.wave_theory.specs.Listed.{kind_of};
+ghost use Rattle.wave_theory.specs.Listed.{kind_rank};
 
 use wave_labels::Act;
 
@@ -27,8 +27,8 @@ pub(crate) const LAND: u8 = 8;
 pub(crate) const COMMIT: u8 = 9;
 
 // The place of its kind in the order.
-pub(crate) fn kind_of(act: &Act) -> u8
-    ensures { result ≡ kind_of (act_of act.now) }
+pub(crate) fn kind_rank(act: &Act) -> u8
+    ensures { result ≡ kind_rank (act_of act.now) }
 {
     match act {
         Act::Admit(_) => ADMIT,
@@ -46,7 +46,7 @@ pub(crate) fn kind_of(act: &Act) -> u8
 
 // Whether its kind comes behind the Stops: a Free, Pass, Land or Commit.
 pub(crate) fn is_late(act: &Act) -> bool
-    ensures { result ≡ nat_lt 5 (kind_of (act_of act.now)) }
+    ensures { result ≡ nat_lt 5 (kind_rank (act_of act.now)) }
 {
-    kind_of(act) > STOP
+    kind_rank(act) > STOP
 }

@@ -15,11 +15,11 @@ ghost use Rattle.wave_machine.specs.inner.Asking.{admit_labels, in_order, label_
 ghost use Rattle.wave_effects.specs.Sized.{IsListable, IsNumbered};
 ghost use Rattle.wave_machine.specs.inner.Done.{AreDone};
 ghost use Rattle.wave_machine.specs.inner.Others.{but};
-ghost use Rattle.wave_machine.specs.inner.Index.{IsHead, IsInner, Lists, ListsNew, Relists, RelistsBoth, RelistsNear, RelistsNext, RelistsOwn, Taken, asked_as, asked_at, asked_of, by_none, by_part, head_in, is_admit, next_at, number_of, share_of, weight_of};
+ghost use Rattle.wave_machine.specs.inner.Index.{IsHead, IsInner, Lists, ListsNew, Relists, RelistsBoth, RelistsNear, RelistsNext, RelistsOwn, Taken, asked_as, asked_at, asked_of, by_none, by_part, head_in, is_admit, next_at, act_number, share_of, weight_of};
 ghost use Rattle.wave_effects.specs.Keeping.{kept_of};
 
 use crate::asking::{admit_label, commit_label, mail_label, status_label};
-use crate::index::{cut_admit, cut_commit, cut_slot, is_at, number_of, put_some, ticket_of};
+use crate::index::{act_number, cut_admit, cut_commit, cut_slot, is_at, put_some, ticket_of};
 use crate::listed::Seen;
 use crate::looks::{cell_at, line_at, path_of};
 use crate::order::ADMIT;
@@ -57,12 +57,12 @@ fn relist_near(
     requires listable { IsListable (kept_of engine.now) }
     requires next { option_map (λ t. t.0) next ≡ next_at (path_of (act_of label.now.act)) (slice_get engine.now.stores.items label.now.host.0) }
     requires room { vec_len index.old + (4 + weight_of engine.now.cells.items) ≤ vec_capacity index.old }
-    ensures relists { RelistsNear (kept_of engine.now) (ticket_of (act_of label.now.act)) (number_of (act_of label.now.act)) seen.sent (option_map (λ t. t.0) seen.next) (next_at (path_of (act_of label.now.act)) (slice_get engine.now.stores.items label.now.host.0)) index.old.items index.new.items }
+    ensures relists { RelistsNear (kept_of engine.now) (ticket_of (act_of label.now.act)) (act_number (act_of label.now.act)) seen.sent (option_map (λ t. t.0) seen.next) (next_at (path_of (act_of label.now.act)) (slice_get engine.now.stores.items label.now.host.0)) index.old.items index.new.items }
     ensures len { vec_len index.new ≤ vec_len index.old + (4 + weight_of engine.now.cells.items) }
     ensures capacity { vec_capacity index.new ≡ vec_capacity index.old }
 {
     let ticket = ticket_of(&label.act);
-    relist_own(engine, ticket, number_of(&label.act), index);
+    relist_own(engine, ticket, act_number(&label.act), index);
     list_new(engine, ticket, seen.sent, index);
     relist_both(engine, other(seen.next, ticket), other(next, ticket), index);
 }

@@ -13,11 +13,11 @@ ghost use Rattle.wave_effects.specs.Machines.{IsReached, Stands, TheState};
 ghost use Rattle.wave_machine.specs.inner.Index.{IsListed, by_none};
 ghost use Rattle.wave_machine.specs.inner.Takeable.{CanTake, is_stop_of};
 
-use crate::index::{number_of, place, ticket_of};
+use crate::index::{act_number, place, ticket_of};
 use crate::listable::states_list;
 use crate::listed::Listed;
 use crate::looks::has_at;
-use crate::order::kind_of;
+use crate::order::kind_rank;
 use crate::ready::Ready;
 use plan_actors::PlanActors;
 use wave_base::{Host, Worker};
@@ -72,7 +72,7 @@ fn has(index: &[Ready], ready: &Ready) -> bool
     ensures { Rising (λ (l m : theory.Label). Before l.act m.act) (map by_none index.now) → IsTrue result ↔ IsIn index.now ready.now }
 {
     let act = &ready.act;
-    let at = place(index, kind_of(act), ticket_of(act), number_of(act));
+    let at = place(index, kind_rank(act), ticket_of(act), act_number(act));
     match ready_at(index, at) {
         Some(found) => found == *ready,
         None => false,

@@ -15,7 +15,7 @@ use Rattle.wave_states.specs.Steps.{step, next_ticket}
 use Rattle.wave_states.specs.Canonical.{below, at_host, by_event, by_mail, to_mark, runs_it, place, by_status, grants_of, starts_of, stops_of, by_mails, mail_act, passes_of, early, stops, late, idle_in, taken_as, takes, taken_by, stop_by, enabled, enabled_for}
 use Rattle.wave_theory.proofs.Basics.{bool_cases, clash, number_is, and_first}
 use Rattle.wave_theory.proofs.GoodStates.{Good_state}
-use Rattle.wave_theory.specs.Listed.{kind_of, mail_of, Before, Rising, Sorted}
+use Rattle.wave_theory.specs.Listed.{kind_rank, mail_of, Before, Rising, Sorted}
 
 all_append : {X : Type 0} (P : X → Type 0) (xs ys : List X) → AllByRecursion P xs → AllByRecursion P ys → AllByRecursion P (xs ++ ys)
 all_append P [] ys h k = k
@@ -111,13 +111,13 @@ one_only R g f w u (suc n) a = by (f a) refl (one_only R g f w u n (suc a))
 
 -- of this kind, ticket and number
 abbrev OfKind : ℕ → Choice → Type 0
-OfKind i c = kind_of c.act ≡ i
+OfKind i c = kind_rank c.act ≡ i
 
 abbrev OfTicket : ℕ → ℕ → Choice → Type 0
-OfTicket i t c = (kind_of c.act ≡ i) × (ticket_of c.act ≡ t)
+OfTicket i t c = (kind_rank c.act ≡ i) × (ticket_of c.act ≡ t)
 
 abbrev OfMail : ℕ → ℕ → ℕ → Choice → Type 0
-OfMail i t k c = (kind_of c.act ≡ i) × (ticket_of c.act ≡ t) × (mail_of c.act ≡ k)
+OfMail i t k c = (kind_rank c.act ≡ i) × (ticket_of c.act ≡ t) × (mail_of c.act ≡ k)
 
 abbrev Order : Choice → Choice → Type 0
 Order c d = Before c.act d.act
@@ -133,7 +133,7 @@ record IsOne (i t k : ℕ) (cs : List Choice) : Type 0 where
   rising : Rising Order cs
   each : AllByRecursion (OfMail i t k) cs
 
-at_one : (i t : ℕ) (o : Option ℕ) (a : Act) → kind_of a ≡ i → ticket_of a ≡ t → mail_of a ≡ 0 → IsOne i t 0 (at_host o a)
+at_one : (i t : ℕ) (o : Option ℕ) (a : Act) → kind_rank a ≡ i → ticket_of a ≡ t → mail_of a ≡ 0 → IsOne i t 0 (at_host o a)
 at_one i t None a e f m = record { rising = tt; each = tt }
 at_one i t (Some h) a e f m = record { rising = (tt, tt); each = ((e, f, m), tt) }
 
@@ -183,7 +183,7 @@ module _ {A F R J : Type 0} (sys : Actors A F R J) (s : State A F R J) (hosts : 
 
   -- up to a kind, and past one
   abbrev InSpan : ℕ → ℕ → Choice → Type 0
-  InSpan a c x = (a ≤ kind_of x.act) × (kind_of x.act ≤ c)
+  InSpan a c x = (a ≤ kind_rank x.act) × (kind_rank x.act ≤ c)
 
   record IsRun (a c : ℕ) (cs : List Choice) : Type 0 where
     rising : Rising Order cs
@@ -210,7 +210,7 @@ module _ {A F R J : Type 0} (sys : Actors A F R J) (s : State A F R J) (hosts : 
       near : (a c d j : ℕ) → a ≤ c → c < d → d ≤ j → a ≤ j
       near a c d j l m n = omega (arith, l, m, n)
 
-  mails : (i : ℕ) (act : ℕ → ℕ → Path → Act) → ((t k : ℕ) (p : Path) → kind_of (act t k p) ≡ i) → ((t k : ℕ) (p : Path) → ticket_of (act t k p) ≡ t) → ((t k : ℕ) (p : Path) → mail_of (act t k p) ≡ k) → IsRun i i (by_mails s (mail_act act))
+  mails : (i : ℕ) (act : ℕ → ℕ → Path → Act) → ((t k : ℕ) (p : Path) → kind_rank (act t k p) ≡ i) → ((t k : ℕ) (p : Path) → ticket_of (act t k p) ≡ t) → ((t k : ℕ) (p : Path) → mail_of (act t k p) ≡ k) → IsRun i i (by_mails s (mail_act act))
   mails i act e f g = part_run i _ (mail_part i (mail_act act) (λ t k m. record { rising = (tt, tt); each = ((e t k m.path, f t k m.path, g t k m.path), tt) }))
 
   grants_one : (t : ℕ) (u : Status) → IsOne 2 t 0 (grants_of s hosts t u)
@@ -241,7 +241,7 @@ module _ {A F R J : Type 0} (sys : Actors A F R J) (s : State A F R J) (hosts : 
       by None = none_of 7 t k
       by (Some g) = record { rising = (tt, tt); each = ((refl, refl, refl), tt) }
 
-  single : (i : ℕ) (c : Choice) → kind_of c.act ≡ i → IsRun i i (c ∷ [])
+  single : (i : ℕ) (c : Choice) → kind_rank c.act ≡ i → IsRun i i (c ∷ [])
   single i c e = part_run i (c ∷ []) (record { rising = (tt, tt); each = (e, tt) })
 
   early_run : IsRun 0 4 (early s hosts)
@@ -257,7 +257,7 @@ module _ {A F R J : Type 0} (sys : Actors A F R J) (s : State A F R J) (hosts : 
   LabelOrder l m = Before l.act m.act
 
   abbrev LabelSpan : ℕ → ℕ → Label → Type 0
-  LabelSpan a c x = (a ≤ kind_of x.act) × (kind_of x.act ≤ c)
+  LabelSpan a c x = (a ≤ kind_rank x.act) × (kind_rank x.act ≤ c)
 
   record IsLabels (a c : ℕ) (ls : List Label) : Type 0 where
     rising : Rising LabelOrder ls
@@ -339,7 +339,7 @@ module _ {A F R J : Type 0} (sys : Actors A F R J) (s : State A F R J) (hosts : 
         stop_labels : IsLabels 5 5 (flat_map (stop_by sys workers s) (by_status s (stops_of s hosts)))
         stop_labels = record {
           rising = stops_rise (by_status s (stops_of s hosts)) part.rising;
-          each = all_flat (OfKind 5) (LabelSpan 5 5) (stop_by sys workers s) (by_status s (stops_of s hosts)) part.each (λ c e. all_with (λ (x : Label). x.act ≡ c.act) (LabelSpan 5 5) (stop_by sys workers s c) (λ x f. (subst (λ i. 5 ≤ i) (sym (ap kind_of f ∙ e)) (omega arith), subst (λ i. i ≤ 5) (sym (ap kind_of f ∙ e)) (omega arith))) (stop_acts c));
+          each = all_flat (OfKind 5) (LabelSpan 5 5) (stop_by sys workers s) (by_status s (stops_of s hosts)) part.each (λ c e. all_with (λ (x : Label). x.act ≡ c.act) (LabelSpan 5 5) (stop_by sys workers s c) (λ x f. (subst (λ i. 5 ≤ i) (sym (ap kind_rank f ∙ e)) (omega arith), subst (λ i. i ≤ 5) (sym (ap kind_rank f ∙ e)) (omega arith))) (stop_acts c));
         }
 
 module _ {A F R J : Type 0} (kind : Kind A F R J) (owes : Owes kind) (b : Begin F) (batches : List (List J)) (begins : IsBegin kind b) (jobs : All (All kind.is_job) batches) where

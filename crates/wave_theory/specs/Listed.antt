@@ -15,17 +15,17 @@ IsIn [] x = ⊥
 IsIn (y ∷ ys) x = (y ≡ x) ⊎ IsIn ys x
 
 -- the kinds of labels in their order
-abbrev pub kind_of : Act → ℕ
-kind_of (Admit t) = 0
-kind_of (Queue t k p) = 1
-kind_of (Grant t p) = 2
-kind_of (Visit t k p) = 3
-kind_of (Start t p) = 4
-kind_of (Stop t p) = 5
-kind_of (Free t k p) = 6
-kind_of (Pass t k p to) = 7
-kind_of (Land t k p) = 8
-kind_of (Commit t) = 9
+abbrev pub kind_rank : Act → ℕ
+kind_rank (Admit t) = 0
+kind_rank (Queue t k p) = 1
+kind_rank (Grant t p) = 2
+kind_rank (Visit t k p) = 3
+kind_rank (Start t p) = 4
+kind_rank (Stop t p) = 5
+kind_rank (Free t k p) = 6
+kind_rank (Pass t k p to) = 7
+kind_rank (Land t k p) = 8
+kind_rank (Commit t) = 9
 
 -- the number of its mail, if it takes one
 abbrev pub mail_of : Act → ℕ
@@ -42,7 +42,7 @@ mail_of (Commit t) = 0
 
 -- by kind, then by ticket, then by the number of the mail
 abbrev pub Before : Act → Act → Type 0
-Before a b = (kind_of a < kind_of b) ⊎ ((kind_of a ≡ kind_of b) × ((ticket_of a < ticket_of b) ⊎ ((ticket_of a ≡ ticket_of b) × (mail_of a < mail_of b))))
+Before a b = (kind_rank a < kind_rank b) ⊎ ((kind_rank a ≡ kind_rank b) × ((ticket_of a < ticket_of b) ⊎ ((ticket_of a ≡ ticket_of b) × (mail_of a < mail_of b))))
 
 -- each one before all that come later, so none twice
 abbrev pub Rising : {X : Type 0} → (X → X → Type 0) → List X → Type 0

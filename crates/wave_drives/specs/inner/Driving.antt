@@ -13,7 +13,7 @@ use Rattle.plan_actors.specs.Plans.{Plan, begin_in}
 use Rattle.wave_drives.specs.declared.ends.End.{End}
 use Rattle.wave_drives.specs.declared.rules.PickRule.{PickRule}
 use Rattle.wave_effects.specs.Machines.{Kept, TheState}
-use Rattle.wave_drives.specs.Rules.{number_of, rule_of}
+use Rattle.wave_drives.specs.Rules.{rule_number, rule_of}
 use Rattle.wave_drives.specs.Walks.{IsUnder}
 
 module _ {A F R J : Type 0} (sys : Actors A F R J) (workers hosts : ℕ) (rule : Rule A F R J) where
@@ -33,4 +33,4 @@ pub record IsDriving (m : Kept) (plan : Plan) (start : Start) (rule : PickRule) 
   pub same : m.plan ≡ plan
   pub state : TheState
   pub under : IsUnder m ends start state
-  pub drives : DrivesTo (plan_actors plan.program) plan.workers plan.script.hosts (rule_of rule) (number_of rule) (first_state plan start) labels draw state
+  pub drives : DrivesTo (plan_actors plan.program) plan.workers plan.script.hosts (rule_of rule) (rule_number rule) (first_state plan start) labels draw state

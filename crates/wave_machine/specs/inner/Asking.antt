@@ -22,7 +22,7 @@ use Rattle.event_cells.specs.Keeps.{Sending, is_empty, mail_in}
 use Rattle.wave_states.specs.Labels.{Act, Label, Admit, Queue, Grant, Visit, Start, Stop, Free, Pass, Land, Commit}
 use Rattle.wave_states.specs.States.{Claim}
 use Rattle.wave_states.specs.Steps.{Route, Deliver, Born, Wait, Forward, route}
-use Rattle.wave_theory.specs.Listed.{kind_of}
+use Rattle.wave_theory.specs.Listed.{kind_rank}
 use Rattle.wave_effects.specs.declared.actor.Actor.{Actor}
 use Rattle.wave_effects.specs.declared.kept.Out.{Out}
 use Rattle.wave_effects.specs.Keeping.{place_in}
@@ -142,7 +142,7 @@ asked_in m idle ws =
 
 -- by kind, and those of a kind as they were
 abbrev pub of_kind : ℕ → List Label → List Label
-of_kind k ls = filter (λ l. kind_of l.act == k) ls
+of_kind k ls = filter (λ l. kind_rank l.act == k) ls
 
 abbrev pub in_order : List Label → List Label
 in_order ls = flat_map (λ k. of_kind k ls) (tickets_from 0 10)

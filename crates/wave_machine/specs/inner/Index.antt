@@ -14,7 +14,7 @@ use Rattle.event_cells.specs.declared.cell.Cell.{Cell}
 use Rattle.event_cells.specs.Keeps.{mail_in}
 use Rattle.host_map.specs.Stores.{Stores, has}
 use Rattle.wave_states.specs.Labels.{Act, Label, Admit, Queue, Visit, Free, Pass, Land, Commit, path_of, ticket_of}
-use Rattle.wave_theory.specs.Listed.{IsIn, kind_of}
+use Rattle.wave_theory.specs.Listed.{IsIn, kind_rank}
 use Rattle.wave_effects.specs.declared.actor.Actor.{Actor}
 use Rattle.wave_machine.specs.declared.listed.Listed.{Listed}
 use Rattle.wave_machine.specs.declared.listed.Seen.{Seen}
@@ -35,13 +35,13 @@ by_none r = record { worker = 0; host = r.host.0; act = act_of r.act }
 -- ---- places
 
 -- the number of a label's mail; 0 where it has none
-abbrev pub number_of : Act → ℕ
-number_of (Queue t k p) = k
-number_of (Visit t k p) = k
-number_of (Free t k p) = k
-number_of (Pass t k p g) = k
-number_of (Land t k p) = k
-number_of _ = 0
+abbrev pub act_number : Act → ℕ
+act_number (Queue t k p) = k
+act_number (Visit t k p) = k
+act_number (Free t k p) = k
+act_number (Pass t k p g) = k
+act_number (Land t k p) = k
+act_number _ = 0
 
 -- a slot is a ticket t and a number k; it comes before another by ticket, and of a ticket by number
 abbrev pub is_before : ℕ → ℕ → ℕ → ℕ → Bool
@@ -49,12 +49,12 @@ is_before t k u j = nat_lt t u || ((t == u) && nat_lt k j)
 
 -- it comes before those of a kind whose slots are from this one on
 abbrev pub under : ℕ → ℕ → ℕ → Act → Bool
-under kind t k a = nat_lt (kind_of a) kind || ((kind_of a == kind) && is_before (ticket_of a) (number_of a) t k)
+under kind t k a = nat_lt (kind_rank a) kind || ((kind_rank a == kind) && is_before (ticket_of a) (act_number a) t k)
 
 -- it is of a kind and a slot
 abbrev pub is_of : ℕ → ℕ → ℕ → Option Ready → Bool
 is_of kind t k None = false
-is_of kind t k (Some r) = (kind_of (act_of r.act) == kind) && ((ticket_of (act_of r.act) == t) && (number_of (act_of r.act) == k))
+is_of kind t k (Some r) = (kind_rank (act_of r.act) == kind) && ((ticket_of (act_of r.act) == t) && (act_number (act_of r.act) == k))
 
 -- the list in two parts: what comes before those of a kind whose slots are from this one on, and the rest
 pub record Parted (ls : List Label) (kind t k : ℕ) (low high : List Label) : Type 0 where
@@ -78,15 +78,15 @@ pub record IsUpTo (t k u j : ℕ) : Type 0 where
 
 -- the slots of a kind are below one, or from it on
 abbrev pub Low : ℕ → ℕ → ℕ → Label → Type 0
-Low kind t k l = kind_of l.act ≡ kind → IsBefore (ticket_of l.act) (number_of l.act) t k
+Low kind t k l = kind_rank l.act ≡ kind → IsBefore (ticket_of l.act) (act_number l.act) t k
 
 abbrev pub High : ℕ → ℕ → ℕ → Label → Type 0
-High kind t k l = kind_of l.act ≡ kind → IsUpTo t k (ticket_of l.act) (number_of l.act)
+High kind t k l = kind_rank l.act ≡ kind → IsUpTo t k (ticket_of l.act) (act_number l.act)
 
 -- worker 0's, of which its kind has only lower slots before it, and none of them behind it
 abbrev pub Goes : List Label → List Label → List Label → Type 0
 Goes [] u v = Unit {0}
-Goes (l ∷ ls) u v = (l.worker ≡ 0) × (AllByRecursion (Low (kind_of l.act) (ticket_of l.act) (number_of l.act)) u × AllByRecursion (High (kind_of l.act) (ticket_of l.act) (number_of l.act)) v)
+Goes (l ∷ ls) u v = (l.worker ≡ 0) × (AllByRecursion (Low (kind_rank l.act) (ticket_of l.act) (act_number l.act)) u × AllByRecursion (High (kind_rank l.act) (ticket_of l.act) (act_number l.act)) v)
 
 -- ---- what a ticket has in the list: under number 0 what its status asks for, under the others what its mails ask for
 
@@ -99,19 +99,19 @@ kinds_at (suc k) = 1 ∷ 3 ∷ 6 ∷ 7 ∷ 8 ∷ []
 pub record IsOwn (t k : ℕ) (l : Label) : Type 0 where
   pub worker : l.worker ≡ 0
   pub ticket : ticket_of l.act ≡ t
-  pub number : number_of l.act ≡ k
-  pub kind : IsIn (kinds_at k) (kind_of l.act)
+  pub number : act_number l.act ≡ k
+  pub kind : IsIn (kinds_at k) (kind_rank l.act)
 
 -- neither an Admit nor a Commit, which the head asks for
 abbrev pub IsInner : Label → Type 0
-IsInner l = (1 ≤ kind_of l.act) × (kind_of l.act ≤ 8)
+IsInner l = (1 ≤ kind_rank l.act) × (kind_rank l.act ≤ 8)
 
 -- what slots ask for is below one, or from it on
 abbrev pub IsBelow : ℕ → ℕ → Label → Type 0
-IsBelow t k l = IsInner l → IsBefore (ticket_of l.act) (number_of l.act) t k
+IsBelow t k l = IsInner l → IsBefore (ticket_of l.act) (act_number l.act) t k
 
 abbrev pub IsFrom : ℕ → ℕ → Label → Type 0
-IsFrom t k l = IsInner l → IsUpTo t k (ticket_of l.act) (number_of l.act)
+IsFrom t k l = IsInner l → IsUpTo t k (ticket_of l.act) (act_number l.act)
 
 abbrev pub Below : ℕ → ℕ → List Label → Type 0
 Below t k ls = AllByRecursion (IsBelow t k) ls
@@ -125,7 +125,7 @@ pub record Lists (t k : ℕ) (old new : List Ready) (x : List Label) : Type 0 wh
 
 -- what a slot had of a kind was taken out
 abbrev pub without : ℕ → List Label → List Label
-without kind ls = filter (λ (l : Label). not (kind_of l.act == kind)) ls
+without kind ls = filter (λ (l : Label). not (kind_rank l.act == kind)) ls
 
 pub record CutsKind (kind t k : ℕ) (old new : List Ready) : Type 0 where
   pub parts : (u x v : List Label) → Below t k u → AllByRecursion (IsOwn t k) x → length x ≤ 1 → From t (k + 1) v → map by_none old ≡ in_order (u ++ (x ++ v)) → map by_none new ≡ in_order (u ++ (without kind x ++ v))
@@ -309,9 +309,9 @@ pub record Sees (m : Kept) (host t : ℕ) (p : Path) (seen : Seen) : Type 0 wher
 -- The ticket's cell has the mails that it had, but for that of the label, as a listing reads them; and it has sent no fewer.
 pub record KeepsMails (m m' : Kept) (l : Label) : Type 0 where
   pub kept : (i : ℕ) (c c' : Cell Actor) → m.first + i ≡ ticket_of l.act → slice_get m.cells i ≡ Some c → slice_get m'.cells i ≡ Some c'
-      → (j : ℕ) → j ≤ c.outbox.sent → j ≢ number_of l.act → (stores : List Stores) → mail_labels stores 0 (ticket_of l.act) j (mail_in c'.outbox.mails j) ≡ mail_labels stores 0 (ticket_of l.act) j (mail_in c.outbox.mails j)
+      → (j : ℕ) → j ≤ c.outbox.sent → j ≢ act_number l.act → (stores : List Stores) → mail_labels stores 0 (ticket_of l.act) j (mail_in c'.outbox.mails j) ≡ mail_labels stores 0 (ticket_of l.act) j (mail_in c.outbox.mails j)
   pub sent : (i : ℕ) (c c' : Cell Actor) → m.first + i ≡ ticket_of l.act → slice_get m.cells i ≡ Some c → slice_get m'.cells i ≡ Some c' → c.outbox.sent ≤ c'.outbox.sent
-  pub number : number_of l.act ≤ sent_at m (ticket_of l.act)
+  pub number : act_number l.act ≤ sent_at m (ticket_of l.act)
 
 -- a label was taken, before which so much was seen
 pub record Taken (m m' : Kept) (l : Label) (seen : Seen) (more : ℕ) : Type 0 where

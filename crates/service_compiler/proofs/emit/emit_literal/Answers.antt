@@ -19,7 +19,7 @@ returns-in-Bool c = on_ok _ _ c.put-in-Bool.result (literal_is c.args.at c.in-Bo
 
 pub returns-in-Str : goal.returns-in-Str
 returns-in-Str c =
-    on_ok _ _ c.put_use.result (λ g. literal_is c.args.at c.in-Str.is (g (λ n. i.PushText n) (ap i.PushText c.number_of-number.ensures))) c.put_use.ensures
+    on_ok _ _ c.put_use.result (λ g. literal_is c.args.at c.in-Str.is (g (λ n. i.PushText n) (ap i.PushText c.text_number-number.ensures))) c.put_use.ensures
 
 pub returns-in-Map : goal.returns-in-Map
 returns-in-Map c = on_ok _ _ c.put-in-Map.result (literal_is c.args.at c.in-Map.is) c.put-in-Map.ensures

@@ -132,7 +132,7 @@ pub emit_stmt-returns-in-Send : goal.emit_stmt-returns-in-Send
 emit_stmt-returns-in-Send t c =
     let at = c.args.stmt.now.at in
     on_ok _ _ c.put_use.result (λ g.
-    send_step c.args.methods.now (ap (λ a. action_step a at) c.in-Send.is) c.in_ok-emit_operands.ensures (g (λ n. i.Send n) (ap i.Send c.number_of-number.ensures)))
+    send_step c.args.methods.now (ap (λ a. action_step a at) c.in-Send.is) c.in_ok-emit_operands.ensures (g (λ n. i.Send n) (ap i.Send c.text_number-number.ensures)))
     c.put_use.ensures
 
 pub emit_stmt-returns-in-Do : goal.emit_stmt-returns-in-Do

@@ -19,7 +19,7 @@ number-returns-in-Op t c =
     let e = c.args.e.now in
     let is : tree_of e ≡ r.Op e.at c.in-Op.row (trees_of (map tree_of c.as_slice.result.now)) =
     ap (λ n. node_tree n e.at) c.in-Op.is ∙ op_node c.in-Op.row c.in-Op.args e.at ∙ ap (λ l. r.Op e.at c.in-Op.row (trees_of (map tree_of l))) (sym c.as_slice.ensures.value) in
-    subst (λ (t : Tree). IfSome c.number_of.result (λ n. IsWorth c.args.view.now t (Int n))) (sym is) c.number_of.ensures
+    subst (λ (t : Tree). IfSome c.number_given.result (λ n. IsWorth c.args.view.now t (Int n))) (sym is) c.number_given.ensures
 
 pub number_of_two-returns-in-Some-number : goal.number_of_two-returns-in-Some-number
 number_of_two-returns-in-Some-number t c =

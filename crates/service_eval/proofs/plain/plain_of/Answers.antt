@@ -6,7 +6,7 @@ use Rattle.service_eval.proofs.PlainLemmas.{if_mapped}
 use Rattle.service_eval.proofs.plain.plain_of.Goals as goal
 
 pub returns-in-Int : goal.returns-in-Int
-returns-in-Int c = if_mapped Int (IsWorth c.args.view.now (Op c.args.at c.args.row (trees_of (map tree_of c.args.args.now)))) c.number_of.result c.int.result c.int.ensures c.number_of.ensures
+returns-in-Int c = if_mapped Int (IsWorth c.args.view.now (Op c.args.at c.args.row (trees_of (map tree_of c.args.args.now)))) c.number_given.result c.int.result c.int.ensures c.number_given.ensures
 
 pub returns-in-Bool : goal.returns-in-Bool
 returns-in-Bool c = if_mapped Bool (IsWorth c.args.view.now (Op c.args.at c.args.row (trees_of (map tree_of c.args.args.now)))) c.flag_of.result c.truth.result c.truth.ensures c.flag_of.ensures

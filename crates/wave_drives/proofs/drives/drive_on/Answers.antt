@@ -11,7 +11,7 @@ use Rattle.plan_actors.specs.PlanActors.{plan_actors}
 use Rattle.plan_actors.proofs.Meeting.{plan_fits, begin_fits}
 use Rattle.plan_actors.proofs.Owing.{setting_of}
 use Rattle.wave_effects.specs.Plans.{plan_of}
-use Rattle.wave_drives.specs.Rules.{number_of, rule_of}
+use Rattle.wave_drives.specs.Rules.{rule_number, rule_of}
 use Rattle.wave_drives.specs.inner.Driving.{IsDriving, first_state}
 use Rattle.wave_drives.proofs.Driven.{drive_done, drive_run, driving_more, next_taking, nothing_left}
 use Rattle.wave_drives.proofs.drives.drive_on.Goals as goal
@@ -50,7 +50,7 @@ returns-clause-driven c =
     let can = c.states_drive.ensures m.plan c.args.start.now st.labels d.state st.fits st.begins st.reached in
     let picks = c.in_ok-label.ensures c.args.start.now d.state st ∙ ap (λ o. (c.next.new.draw, option_map label_of o)) c.in_default.is in
     let none = nothing_left c.rules_pick.ensures m c.loop-labels.walk.ends.items c.args.start.now c.args.rule c.loop-labels.draw c.next.new.draw d.state d.under can picks in
-    drive_done (plan_actors p.program) p.workers p.script.hosts (rule_of c.args.rule) (map label_of c.loop-labels.labels.items) (number_of c.args.rule) (first_state p c.args.start.now) c.loop-labels.draw d.state d.drives
+    drive_done (plan_actors p.program) p.workers p.script.hosts (rule_of c.args.rule) (map label_of c.loop-labels.labels.items) (rule_number c.args.rule) (first_state p c.args.start.now) c.loop-labels.draw d.state d.drives
     (subst (λ (q : Plan). enabled (plan_actors q.program) q.workers q.script.hosts d.state ≡ []) d.same none)
 
 pub returns-clause-finished : goal.returns-clause-finished
@@ -82,7 +82,7 @@ loop-labels-smaller c =
     let picks = c.in_ok-label.ensures start d.state st ∙ ap (λ o. (c.next.new.draw, option_map label_of o)) c.in-Some.is in
     let more = driving_more c.rules_pick.ensures m c.take.new.self.machine.kept p start c.args.rule c.loop-labels.draw c.next.new.draw before c.loop-labels.walk.ends.items c.take.new.self.ends.items l d can picks c.in_ok-take.ensures.leads c.take.ensures.plan in
     let all = before ++ l ∷ [] in
-    let runs = drive_run (plan_actors p.program) p.workers p.script.hosts (rule_of c.args.rule) all (number_of c.args.rule) (first_state p start) c.next.new.draw more.state more.drives in
+    let runs = drive_run (plan_actors p.program) p.workers p.script.hosts (rule_of c.args.rule) all (rule_number c.args.rule) (first_state p start) c.next.new.draw more.state more.drives in
     let fits = subst (λ (q : Plan). Fits q) c.requires.plan c.requires.under.stands.fits in
     let begins = subst (λ (q : Plan). FitsStart q start) c.requires.plan c.requires.under.stands.begins in
     let most = c.runs_are_short.ensures.most p start fits begins all more.state runs in

@@ -9,7 +9,7 @@ use Rattle.wave_effects.specs.Lengths.{IsMeasured}
 use Rattle.wave_effects.specs.Machines.{Stands}
 use Rattle.wave_effects.specs.Plans.{plan_of}
 use Rattle.wave_machine.specs.Prepared.{Shown}
-use Rattle.wave_drives.specs.Rules.{number_of, rule_of}
+use Rattle.wave_drives.specs.Rules.{rule_number, rule_of}
 use Rattle.wave_drives.specs.inner.Driving.{first_state}
 use Rattle.wave_drives.proofs.Driven.{first_under}
 use Rattle.wave_drives.proofs.drives.drive_with.Goals as goal
@@ -39,7 +39,7 @@ returns-clause-told c =
     ∙ ap (λ (p : Plan). finished_of (code_ran p.program) p.program.shape c.args.start.now p.script) c.in_ok-labels.ensures.plan
 
 pub returns-clause-driven : goal.returns-clause-driven
-returns-clause-driven c = subst (λ xs. IsDrive (plan_actors c.args.plan.now.program) c.args.plan.now.workers c.args.plan.now.script.hosts (rule_of c.args.rule) (number_of c.args.rule) (first_state (plan_of c.args.plan.now) c.args.start.now) (map label_of xs)) (sym c.from_vec.ensures) c.in_ok-labels.ensures.driven
+returns-clause-driven c = subst (λ xs. IsDrive (plan_actors c.args.plan.now.program) c.args.plan.now.workers c.args.plan.now.script.hosts (rule_of c.args.rule) (rule_number c.args.rule) (first_state (plan_of c.args.plan.now) c.args.start.now) (map label_of xs)) (sym c.from_vec.ensures) c.in_ok-labels.ensures.driven
 
 pub returns-clause-measured : goal.returns-clause-measured
 returns-clause-measured c =
