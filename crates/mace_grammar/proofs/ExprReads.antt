@@ -42,7 +42,7 @@ module _ (edition : Edition) (sound : IsSound edition) where
   and_then_same (Err e) f g h = refl
 
   -- a comparison is a chain of at most one turn
-  one_turn : (b : Bool) (o : Outcome (BinaryOp × ExprTree)) (left : ExprTree) (ts : List Token) → and_then (if b then and_then o (λ a. give (Some a)) else Ok (None, ts)) (λ right. give (g.compared left right)) ≡ and_then (if b then and_then o (λ a rest. Ok (a ∷ [], rest)) else Ok ([], ts)) (λ others. give (fold g.joined left others))
+  one_turn : (b : Bool) (o : Outcome (BinaryOp × ExprTree)) (left : ExprTree) (ts : List Token) → and_then (if b then and_then o (λ a. give (Some a)) else Ok (None, ts)) (λ right. give (g.comparison_of left right)) ≡ and_then (if b then and_then o (λ a rest. Ok (a ∷ [], rest)) else Ok ([], ts)) (λ others. give (fold g.binary_of left others))
   one_turn true (Ok p) left ts = refl
   one_turn true (Err x) left ts = refl
   one_turn false o left ts = refl
@@ -55,7 +55,7 @@ module _ (edition : Edition) (sound : IsSound edition) where
         (next_part kind U
         (λ first. next_part kind
         (repeated kind (next_part kind (operator edition sound m w.product_op (r.operators_of 0) (product_has edition sound)) (λ o. next_part kind U (λ right. reads_pure kind m (o, right)) refl) refl) refl)
-        (λ others. reads_pure kind m (fold g.joined first others))
+        (λ others. reads_pure kind m (fold g.binary_of first others))
         refl)
         refl)
         refl refl
@@ -67,7 +67,7 @@ module _ (edition : Edition) (sound : IsSound edition) where
         (next_part kind product
         (λ first. next_part kind
         (repeated kind (next_part kind (operator edition sound m w.sum_op (r.operators_of 1) (sum_has edition sound)) (λ o. next_part kind product (λ right. reads_pure kind m (o, right)) refl) refl) refl)
-        (λ others. reads_pure kind m (fold g.joined first others))
+        (λ others. reads_pure kind m (fold g.binary_of first others))
         refl)
         refl)
         refl refl
@@ -80,7 +80,7 @@ module _ (edition : Edition) (sound : IsSound edition) where
         (next_part kind sum
         (λ left. next_part kind
         (optional kind (next_part kind (operator edition sound m w.comparison_op (r.operators_of 2) (comparison_has edition sound)) (λ o. next_part kind sum (λ right. reads_pure kind m (o, right)) refl) refl))
-        (λ right. reads_pure kind m (g.compared left right))
+        (λ right. reads_pure kind m (g.comparison_of left right))
         refl)
         refl)
         refl refl)
@@ -93,7 +93,7 @@ module _ (edition : Edition) (sound : IsSound edition) where
         (next_part kind comparison
         (λ first. next_part kind
         (repeated kind (next_part kind (operator edition sound m w.and_op (r.operators_of 3) (and_has edition sound)) (λ o. next_part kind comparison (λ right. reads_pure kind m (o, right)) refl) refl) refl)
-        (λ others. reads_pure kind m (fold g.joined first others))
+        (λ others. reads_pure kind m (fold g.binary_of first others))
         refl)
         refl)
         refl refl
@@ -111,7 +111,7 @@ module _ (edition : Edition) (sound : IsSound edition) where
         (next_part kind C
         (λ first. next_part kind
         (repeated kind (next_part kind (operator edition sound m w.or_op (r.operators_of 4) (or_has edition sound)) (λ o. next_part kind C (λ right. reads_pure kind m (o, right)) refl) refl) refl)
-        (λ others. reads_pure kind m (fold g.joined first others))
+        (λ others. reads_pure kind m (fold g.binary_of first others))
         refl)
         refl)
         refl refl

@@ -79,7 +79,7 @@ module _ {P : Token → Type 0} where
 
   -- ---- lists with commas
 
-  pub listed : {A : Type 0} {S : A → Type 0} (item : Part A) → Gives P S item → Gives P (Each S) (g.listed item)
+  pub listed : {A : Type 0} {S : A → Type 0} (item : Part A) → Gives P S item → Gives P (Each S) (g.comma_list item)
   listed item F = next F (λ first f. next (each (next (any (w.sign s.Comma)) (λ at _. F))) (λ others os. whole (first ∷ others) (f, os)))
 
   pub in_parens : {A : Type 0} {S : A → Type 0} (item : Part A) → Gives P S item → Gives P (Each S) (g.in_parens item)

@@ -76,12 +76,12 @@ bare_place (e.Binary at o l x) = refl
 abbrev bare_operand : BinaryOp × ExprTree → BinaryOp × ExprTree
 bare_operand p = (p.0, bare_expr p.1)
 
-bare_joined : (left : ExprTree) (right : BinaryOp × ExprTree) → g.joined (bare_expr left) (bare_operand right) ≡ bare_expr (g.joined left right)
+bare_joined : (left : ExprTree) (right : BinaryOp × ExprTree) → g.binary_of (bare_expr left) (bare_operand right) ≡ bare_expr (g.binary_of left right)
 bare_joined left right = ap (λ at. e.Binary at right.0 (bare_expr left) (bare_expr right.1)) (bare_place left)
 
-bare_fold : (left : ExprTree) (others : List (BinaryOp × ExprTree)) → fold g.joined (bare_expr left) (map bare_operand others) ≡ bare_expr (fold g.joined left others)
+bare_fold : (left : ExprTree) (others : List (BinaryOp × ExprTree)) → fold g.binary_of (bare_expr left) (map bare_operand others) ≡ bare_expr (fold g.binary_of left others)
 bare_fold left [] = refl
-bare_fold left (o ∷ others) = ap (λ l. fold g.joined l (map bare_operand others)) (bare_joined left o) ∙ bare_fold (g.joined left o) others
+bare_fold left (o ∷ others) = ap (λ l. fold g.binary_of l (map bare_operand others)) (bare_joined left o) ∙ bare_fold (g.binary_of left o) others
 
 bare_exprs_of : (es : List ExprTree) → exprs_of (map bare_expr es) ≡ bare_exprs (exprs_of es)
 bare_exprs_of [] = refl
@@ -101,7 +101,7 @@ module _ (edition : Edition) where
 
     operands : (n : ℕ) (item : Reader ExprTree) → Natural bare_expr item item → (turns : ℕ) (left : ExprTree) → Natural bare_expr (r.operands_at edition n item turns left) (r.operands_at edition n item turns (bare_expr left))
     unfolding r.operands_at
-    operands n item I turns left = natural_then _ (natural_each edition (r.operators_of n) (operand n item I) turns) (λ others. natural_give bare_expr (fold g.joined left others) (fold g.joined (bare_expr left) (map bare_operand others)) (bare_fold left others))
+    operands n item I turns left = natural_then _ (natural_each edition (r.operators_of n) (operand n item I) turns) (λ others. natural_give bare_expr (fold g.binary_of left others) (fold g.binary_of (bare_expr left) (map bare_operand others)) (bare_fold left others))
 
     level : (n : ℕ) → Natural bare_expr (r.level_at edition run n) (r.level_at edition run n)
     level zero = U

@@ -15,7 +15,7 @@ use Rattle.mace_hints.proofs.Tokens.{sign, name, literal, operator, unary_op}
 
 -- ---- lists with commas
 
-pub listed : {A : Type 0} {p q : Part A} → Live p q → Live (g.listed p) (g.listed q)
+pub listed : {A : Type 0} {p q : Part A} → Live p q → Live (g.comma_list p) (g.comma_list q)
 listed P = live_then P (λ a b. live_then (live_many (live_then (sign s.Comma) (λ _ _. P)).leads) (λ c d. live_pure (a ∷ c) (b ∷ d)))
 
 pub in_parens : {A : Type 0} {p q : Part A} → Live p q → Live (g.in_parens p) (g.in_parens q)
@@ -28,7 +28,7 @@ module _ {o : Part BinaryOp} {u v : Part ExprTree} (O : Live o o) (U : Live u v)
   operand = live_then O (λ a b. live_then U (λ c d. live_pure (a, c) (b, d)))
 
   chain : Live (g.chain u o) (g.chain v o)
-  chain = live_then U (λ a b. live_then (live_many operand.leads) (λ c d. live_pure (fold g.joined a c) (fold g.joined b d)))
+  chain = live_then U (λ a b. live_then (live_many operand.leads) (λ c d. live_pure (fold g.binary_of a c) (fold g.binary_of b d)))
 
 module _ (version : Version) where
   abbrev edition : Edition
@@ -45,7 +45,7 @@ module _ (version : Version) where
     sum = chain (operator w.sum_op s.Plus refl) product
 
     comparison : Live (g.comparison edition u) (g.comparison edition v)
-    comparison = live_then sum (λ a b. live_then (live_maybe (operand (operator w.comparison_op s.Less refl) sum).leads) (λ c d. live_pure (g.compared a c) (g.compared b d)))
+    comparison = live_then sum (λ a b. live_then (live_maybe (operand (operator w.comparison_op s.Less refl) sum).leads) (λ c d. live_pure (g.comparison_of a c) (g.comparison_of b d)))
 
     conjunction : Live (g.conjunction edition u) (g.conjunction edition v)
     conjunction = chain (operator w.and_op s.AndAnd refl) comparison

@@ -7,7 +7,7 @@ use Rattle.mace_ast.specs.Exprs.{ExprTree}
 use Rattle.mace_parser.specs.declared.fault.Fault.{Fault}
 use Rattle.mace_parser.specs.declared.fault.Fault.TheVariants.{Memory, Stuck}
 use Rattle.mace_parser.specs.inner.Gives.{Fails}
-use Rattle.mace_grammar.specs.Grammar.{joined}
+use Rattle.mace_grammar.specs.Grammar.{binary_of}
 use Rattle.mace_grammar.specs.inner.Run.{Outcome, Reader, and_then, give, after, sees, each, each_of, with_front}
 use Rattle.mace_grammar.specs.declared.class.Class.{Class}
 use Rattle.mace_grammar.specs.inner.Classes as classes
@@ -106,24 +106,24 @@ module _ (edition : Edition) where
   -- ---- chains of operators
 
   module _ (level : ℕ) (item : Reader ExprTree) where
-    pub chain_goes_on : (n k : ℕ) (left next : ExprTree) (ts rest : List Token) (x : BinaryOp × ExprTree) (out : Outcome ExprTree) → k < n → sees kind (operators_of level) ts ≡ true → operand_at (operator_at level) item ts ≡ Ok (x, rest) → next ≡ joined left x → operands_at edition level item (n - k) left ts ≡ out → operands_at edition level item (n - (k + 1)) next rest ≡ out
+    pub chain_goes_on : (n k : ℕ) (left next : ExprTree) (ts rest : List Token) (x : BinaryOp × ExprTree) (out : Outcome ExprTree) → k < n → sees kind (operators_of level) ts ≡ true → operand_at (operator_at level) item ts ≡ Ok (x, rest) → next ≡ binary_of left x → operands_at edition level item (n - k) left ts ≡ out → operands_at edition level item (n - (k + 1)) next rest ≡ out
     unfolding operands_at
     chain_goes_on n k left next ts rest x out h s e m i =
         ap (λ l. (operands_at edition) level item (n - (k + 1)) l rest) m
-        ∙ sym (goes_on (operators_of level) (operand_at (operator_at level) item) (λ others. fold joined left others) n k ts rest x h s e)
+        ∙ sym (goes_on (operators_of level) (operand_at (operator_at level) item) (λ others. fold binary_of left others) n k ts rest x h s e)
         ∙ i
 
     pub chain_ends : (e : Fault) (n k : ℕ) (left : ExprTree) (ts : List Token) (out : Outcome ExprTree) → k < n → sees kind (operators_of level) ts ≡ true → Fails e (operand_at (operator_at level) item ts) → operands_at edition level item (n - k) left ts ≡ out → Fails e out
     unfolding operands_at
-    chain_ends e n k left ts out h s g i = ends (operators_of level) (operand_at (operator_at level) item) (λ others. fold joined left others) e n k ts out h s g i
+    chain_ends e n k left ts out h s g i = ends (operators_of level) (operand_at (operator_at level) item) (λ others. fold binary_of left others) e n k ts out h s g i
 
     pub chain_done_at : (n : ℕ) (left : ExprTree) (ts : List Token) (out : Outcome ExprTree) → n ≡ 0 → operands_at edition level item n left ts ≡ out → out ≡ Ok (left, ts)
     unfolding operands_at
-    chain_done_at n left ts out e i = done_at (operators_of level) (operand_at (operator_at level) item) (λ others. fold joined left others) n ts out e i
+    chain_done_at n left ts out e i = done_at (operators_of level) (operand_at (operator_at level) item) (λ others. fold binary_of left others) n ts out e i
 
     pub chain_done : (n : ℕ) (left : ExprTree) (ts : List Token) (out : Outcome ExprTree) → sees kind (operators_of level) ts ≡ false → operands_at edition level item n left ts ≡ out → out ≡ Ok (left, ts)
     unfolding operands_at
-    chain_done n left ts out e i = done (operators_of level) (operand_at (operator_at level) item) (λ others. fold joined left others) n ts out e i
+    chain_done n left ts out e i = done (operators_of level) (operand_at (operator_at level) item) (λ others. fold binary_of left others) n ts out e i
 
   chain_next : (unary : Reader ExprTree) (m n : ℕ) (first : ExprTree) (ts rest : List Token) → n ≡ turns_of m rest → level_at edition unary m ts ≡ Ok (first, rest) → operands_at edition m (level_at edition unary m) n first rest ≡ level_at edition unary (suc m) ts
   chain_next unary m n first ts rest e g =

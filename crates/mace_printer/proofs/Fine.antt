@@ -32,15 +32,15 @@ fine_parens : (b : Bool) (ws : List Word) → Stand ws → Stand (in_parens b ws
 fine_parens true ws h = (tt, stand_both ws (word.Sign s.RightParen ∷ []) h (tt, tt))
 fine_parens false ws h = h
 
-fine_joined : (a : ExprTree) (o : BinaryOp) (b : ExprTree) → Fine a → Fine b → Fine (g.joined a (o, b))
+fine_joined : (a : ExprTree) (o : BinaryOp) (b : ExprTree) → Fine a → Fine b → Fine (g.binary_of a (o, b))
 fine_joined a o b ha hb = λ l. fine_parens (nat_lt (level_of o) l) (expr_words a (left_level_of o) ++ (word.Sign (sign_of o) ∷ expr_words b (level_of o + 1))) (stand_both (expr_words a (left_level_of o)) (word.Sign (sign_of o) ∷ expr_words b (level_of o + 1)) (ha (left_level_of o)) (tt, hb (level_of o + 1)))
 
 abbrev FineRight : BinaryOp × ExprTree → Type 0
 FineRight x = Fine x.1
 
-fine_fold : (others : List (BinaryOp × ExprTree)) (left : ExprTree) → Fine left → Each FineRight others → Fine (fold g.joined left others)
+fine_fold : (others : List (BinaryOp × ExprTree)) (left : ExprTree) → Fine left → Each FineRight others → Fine (fold g.binary_of left others)
 fine_fold [] left h k = h
-fine_fold (x ∷ others) left h k = fine_fold others (g.joined left x) (fine_joined left x.0 x.1 h k.0) k.1
+fine_fold (x ∷ others) left h k = fine_fold others (g.binary_of left x) (fine_joined left x.0 x.1 h k.0) k.1
 
 args_fine : (found : List ExprTree) → Each Fine found → Stand (args_words (exprs_of found))
 args_fine [] h = tt
@@ -71,9 +71,9 @@ module _ {item : Part ExprTree} (H : Holds Fine item) where
   operand_fine o = then_holds (any o) (λ x _. then_holds H (λ t ht. pure_holds FineRight (x, t) ht))
 
   chain_fine : (o : Part BinaryOp) → Holds Fine (g.chain item o)
-  chain_fine o = then_holds H (λ first hf. then_holds (many_holds (operand_fine o)) (λ others ho. pure_holds Fine (fold g.joined first others) (fine_fold others first hf ho)))
+  chain_fine o = then_holds H (λ first hf. then_holds (many_holds (operand_fine o)) (λ others ho. pure_holds Fine (fold g.binary_of first others) (fine_fold others first hf ho)))
 
-fine_compared : (left : ExprTree) (right : Option (BinaryOp × ExprTree)) → Fine left → IfThere FineRight right → Fine (g.compared left right)
+fine_compared : (left : ExprTree) (right : Option (BinaryOp × ExprTree)) → Fine left → IfThere FineRight right → Fine (g.comparison_of left right)
 fine_compared left None h k = h
 fine_compared left (Some x) h k = fine_joined left x.0 x.1 h k
 
@@ -83,7 +83,7 @@ module _ (edition : Edition) where
     sum_fine = chain_fine (chain_fine H (w.operator w.product_op)) (w.operator w.sum_op)
 
     comparison_fine : Holds Fine (g.comparison edition u)
-    comparison_fine = then_holds sum_fine (λ left hl. then_holds (maybe_holds (operand_fine sum_fine (w.operator w.comparison_op))) (λ right hr. pure_holds Fine (g.compared left right) (fine_compared left right hl hr)))
+    comparison_fine = then_holds sum_fine (λ left hl. then_holds (maybe_holds (operand_fine sum_fine (w.operator w.comparison_op))) (λ right hr. pure_holds Fine (g.comparison_of left right) (fine_compared left right hl hr)))
 
     expr_fine : Holds Fine (g.expr edition u)
     expr_fine = chain_fine (chain_fine comparison_fine (w.operator w.and_op)) (w.operator w.or_op)

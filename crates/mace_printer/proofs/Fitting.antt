@@ -36,9 +36,9 @@ module _ (edition : Edition) where
   abbrev RightFits : BinaryOp × ExprTree → Type 0
   RightFits x = Fits x.1
 
-  fold_fits : (others : List (BinaryOp × ExprTree)) (left : ExprTree) → Fits left → Each RightFits others → Fits (fold g.joined left others)
+  fold_fits : (others : List (BinaryOp × ExprTree)) (left : ExprTree) → Fits left → Each RightFits others → Fits (fold g.binary_of left others)
   fold_fits [] left h k = h
-  fold_fits (x ∷ others) left h k = fold_fits others (g.joined left x) (h, k.0) k.1
+  fold_fits (x ∷ others) left h k = fold_fits others (g.binary_of left x) (h, k.0) k.1
 
   args_fit : (found : List ExprTree) → Each Fits found → ExprsFit edition (exprs_of found)
   args_fit [] h = tt
@@ -65,9 +65,9 @@ module _ (edition : Edition) where
     operand_fits o = then_holds (any o) (λ x _. then_holds H (λ t ht. pure_holds RightFits (x, t) ht))
 
     chain_fits : (o : Part BinaryOp) → Holds Fits (g.chain item o)
-    chain_fits o = then_holds H (λ first hf. then_holds (many_holds (operand_fits o)) (λ others ho. pure_holds Fits (fold g.joined first others) (fold_fits others first hf ho)))
+    chain_fits o = then_holds H (λ first hf. then_holds (many_holds (operand_fits o)) (λ others ho. pure_holds Fits (fold g.binary_of first others) (fold_fits others first hf ho)))
 
-  compared_fits : (left : ExprTree) (right : Option (BinaryOp × ExprTree)) → Fits left → IfThere RightFits right → Fits (g.compared left right)
+  compared_fits : (left : ExprTree) (right : Option (BinaryOp × ExprTree)) → Fits left → IfThere RightFits right → Fits (g.comparison_of left right)
   compared_fits left None h k = h
   compared_fits left (Some x) h k = (h, k)
 
@@ -76,7 +76,7 @@ module _ (edition : Edition) where
     sum_fits = chain_fits (chain_fits H (w.operator w.product_op)) (w.operator w.sum_op)
 
     comparison_fits : Holds Fits (g.comparison edition u)
-    comparison_fits = then_holds sum_fits (λ left hl. then_holds (maybe_holds (operand_fits sum_fits (w.operator w.comparison_op))) (λ right hr. pure_holds Fits (g.compared left right) (compared_fits left right hl hr)))
+    comparison_fits = then_holds sum_fits (λ left hl. then_holds (maybe_holds (operand_fits sum_fits (w.operator w.comparison_op))) (λ right hr. pure_holds Fits (g.comparison_of left right) (compared_fits left right hl hr)))
 
     expr_fits : Holds Fits (g.expr edition u)
     expr_fits = chain_fits (chain_fits comparison_fits (w.operator w.and_op)) (w.operator w.or_op)

@@ -156,7 +156,7 @@ module _ (edition : Edition) where
 -- ---- lists
 
 module _ {A : Type 0} {P : A → Type 0} {item : Part A} (H : Holds P item) where
-  listed_holds : Holds (Each P) (g.listed item)
+  listed_holds : Holds (Each P) (g.comma_list item)
   listed_holds = then_holds H (λ first hf. then_holds (many_holds (then_holds (any (w.sign s.Comma)) (λ _ _. H))) (λ others ho. pure_holds (Each P) (first ∷ others) (hf, ho)))
 
   unwrapped : (o : Option (List A)) → IfThere (Each P) o → Each P (unwrap_or o [])

@@ -133,22 +133,22 @@ op_stands f l m h (word.Text t) o q = cc
 
 -- an operator and its right operand, behind a left one
 joined_least : (item : Part ExprTree) (f : Sign → Option BinaryOp) (l m : ℕ) → Fit f l m → Least item (λ a. length (expr_words a (l + 1))) → (left : ExprTree) (x : BinaryOp × ExprTree) (ts : List Token) → (g.operand (w.operator f) item).Spells x ts
-    → length (expr_words (g.joined left x) l) ≤ length (expr_words left m) + length ts
+    → length (expr_words (g.binary_of left x) l) ≤ length (expr_words left m) + length ts
 joined_least item f l m fits least left x ts h =
     let (o, f1, b1, e1, k1, r1) = h in
     let (right, f2, b2, e2, k2, r2) = r1 in
     let stands = op_stands f l m fits k1.0.word o k1.2 in
-    let here : length (expr_words (g.joined left (o, right)) l) ≡ length (expr_words left m) + suc (length (expr_words right (l + 1))) =
+    let here : length (expr_words (g.binary_of left (o, right)) l) ≡ length (expr_words left m) + suc (length (expr_words right (l + 1))) =
     at_level l (place_of left) o left right stands.0 ∙ ap (λ n. length (expr_words left n) + suc (length (expr_words right (l + 1)))) stands.1 in
-    subst (λ x. length (expr_words (g.joined left x) l) ≤ length (expr_words left m) + length ts) (sym r2.0)
+    subst (λ x. length (expr_words (g.binary_of left x) l) ≤ length (expr_words left m) + length ts) (sym r2.0)
     (omega (arith, here, least right f2 k2, length-append {A = Token}, ap length e1, ap length k1.1, ap length e2, ap length r2.1))
 
 module _ (item : Part ExprTree) (f : Sign → Option BinaryOp) (l : ℕ) (fits : Fit f l l) (least : Least item (λ a. length (expr_words a (l + 1)))) where
-  chain_rest : (left : ExprTree) (others : List (BinaryOp × ExprTree)) (ts : List Token) → SpellsAll (g.operand (w.operator f) item) others ts → length (expr_words (fold g.joined left others) l) ≤ length (expr_words left l) + length ts
+  chain_rest : (left : ExprTree) (others : List (BinaryOp × ExprTree)) (ts : List Token) → SpellsAll (g.operand (w.operator f) item) others ts → length (expr_words (fold g.binary_of left others) l) ≤ length (expr_words left l) + length ts
   chain_rest left [] ts h = omega arith
   chain_rest left (x ∷ others) ts h =
       let (front, back, q, k, rest) = h in
-      omega (arith, chain_rest (g.joined left x) others back rest, joined_least item f l l fits least left x front k, length-append {A = Token}, ap length q)
+      omega (arith, chain_rest (g.binary_of left x) others back rest, joined_least item f l l fits least left x front k, length-append {A = Token}, ap length q)
 
   chain_least : Least (g.chain item (w.operator f)) (λ a. length (expr_words a l))
   chain_least a ts h =
@@ -167,14 +167,14 @@ module _ {A : Type 0} (item : Part A) (words : A → List Word) (least : Least i
       let (at, f1, b1, e1, k1, r1) = k in
       omega (arith, least x b1 r1, further_least xs back rest, length-append {A = Word}, length-append {A = Token}, ap length q, ap length e1, ap length k1.1)
 
-  listed_least : Least (g.listed item) (λ xs. length (c.listed_words words xs))
+  listed_least : Least (g.comma_list item) (λ xs. length (c.listed_words words xs))
   listed_least xs ts h =
       let (first, f1, b1, e1, k1, r1) = h in
       let (others, f2, b2, e2, k2, r2) = r1 in
       subst (λ xs. length (c.listed_words words xs) ≤ length ts) (sym r2.0)
       (omega (arith, least first f1 k1, further_least others f2 k2, length-append {A = Word}, length-append {A = Token}, ap length e1, ap length e2))
 
-  found_least : (found : Option (List A)) (ts : List Token) → SpellsMaybe (g.listed item) found ts → length (c.listed_words words (unwrap_or found [])) ≤ length ts
+  found_least : (found : Option (List A)) (ts : List Token) → SpellsMaybe (g.comma_list item) found ts → length (c.listed_words words (unwrap_or found [])) ≤ length ts
   found_least None ts h = omega arith
   found_least (Some xs) ts h = listed_least xs ts h
 
@@ -233,7 +233,7 @@ module _ (edition : Edition) where
     sum_least : Least (g.sum edition u) (λ a. length (expr_words a 3))
     sum_least = chain_least (g.product edition u) w.sum_op 3 sum_fits product_least
 
-    compared_least : (left : ExprTree) (right : Option (BinaryOp × ExprTree)) (ts : List Token) → SpellsMaybe (g.operand (w.operator w.comparison_op) (g.sum edition u)) right ts → length (expr_words (g.compared left right) 2) ≤ length (expr_words left 3) + length ts
+    compared_least : (left : ExprTree) (right : Option (BinaryOp × ExprTree)) (ts : List Token) → SpellsMaybe (g.operand (w.operator w.comparison_op) (g.sum edition u)) right ts → length (expr_words (g.comparison_of left right) 2) ≤ length (expr_words left 3) + length ts
     compared_least left None ts h = omega (arith, looser left 2 3 (omega arith))
     compared_least left (Some x) ts h = joined_least (g.sum edition u) w.comparison_op 2 3 comparison_fits sum_least left x ts h
 

@@ -62,7 +62,7 @@ module _ (edition : Edition) where
           [],
           sym (append-nil (v1 ++ (y ++ z))),
           all_more (g.operand o item) others (k, r) v1 (y ++ z) sv (k, y, z, refl, ho, (r, z, [], sym (append-nil z), hr, (refl, refl))),
-          (ap (λ w. e.Binary (place_of w) k w r) hp.0 ∙ sym (fold-append g.joined first others ((k, r) ∷ [])), refl),
+          (ap (λ w. e.Binary (place_of w) k w r) hp.0 ∙ sym (fold-append g.binary_of first others ((k, r) ∷ [])), refl),
         ),
       )
 

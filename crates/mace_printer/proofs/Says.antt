@@ -87,7 +87,7 @@ module _ {X A : Type 0} (item : Part A) (value : X → A) (words : X → List Wo
     further_say xs h.1,
   )
 
-  pub listed_says : (x : X) (xs : List X) → P x → Each P xs → Says (g.listed item) (value x ∷ map value xs) (listed_words words (x ∷ xs))
+  pub listed_says : (x : X) (xs : List X) → P x → Each P xs → Says (g.comma_list item) (value x ∷ map value xs) (listed_words words (x ∷ xs))
   listed_says x xs h k = (value x, map plain_token (words x), _, map-append plain_token (words x) (further_words words xs), says x h, (map value xs, map plain_token (further_words words xs), [], sym (append-nil (map plain_token (further_words words xs))), further_say xs k, (refl, refl)))
 
   pub parens_say : (xs : List X) → Each P xs → Says (g.in_parens item) (map value xs) (word.Sign s.LeftParen ∷ (listed_words words xs ++ word.Sign s.RightParen ∷ []))

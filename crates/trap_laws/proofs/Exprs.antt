@@ -63,7 +63,7 @@ module _ (P : Span → Type 0) where
     traps = λ h. operated P o.0 (trees_traps (tree (resolve h x) no_trees)) p (and_then P (tree_traps (resolve h x)) [] (f.traps h) tt);
   }
 
-  joined_is : (left : ExprTree) (right : BinaryOp × ExprTree) → IsPlaced left → IsPlaced right.1 → IsPlaced (g.joined left right)
+  joined_is : (left : ExprTree) (right : BinaryOp × ExprTree) → IsPlaced left → IsPlaced right.1 → IsPlaced (g.binary_of left right)
   joined_is left right f r = record {
     place = f.place;
     traps = λ h. binary_placed P (place_of left) right.0 (kind_of h left) (kind_of h right.1) (resolve h left) (resolve h right.1) f.place (f.traps h) (r.traps h);
@@ -72,11 +72,11 @@ module _ (P : Span → Type 0) where
   abbrev IsOperand : BinaryOp × ExprTree → Type 0
   IsOperand x = IsPlaced x.1
 
-  fold_is : (left : ExprTree) (others : List (BinaryOp × ExprTree)) → IsPlaced left → Each IsOperand others → IsPlaced (fold g.joined left others)
+  fold_is : (left : ExprTree) (others : List (BinaryOp × ExprTree)) → IsPlaced left → Each IsOperand others → IsPlaced (fold g.binary_of left others)
   fold_is left [] f os = f
-  fold_is left (o ∷ others) f os = fold_is (g.joined left o) others (joined_is left o f os.0) os.1
+  fold_is left (o ∷ others) f os = fold_is (g.binary_of left o) others (joined_is left o f os.0) os.1
 
-  compared_is : (left : ExprTree) (right : Option (BinaryOp × ExprTree)) → IsPlaced left → IfThere IsOperand right → IsPlaced (g.compared left right)
+  compared_is : (left : ExprTree) (right : Option (BinaryOp × ExprTree)) → IsPlaced left → IfThere IsOperand right → IsPlaced (g.comparison_of left right)
   compared_is left None f r = f
   compared_is left (Some right) f r = joined_is left right f r
 
@@ -124,7 +124,7 @@ module _ (P : Span → Type 0) where
   operand item operator F = next (any operator) (λ o _. next F (λ right f. whole (o, right) f))
 
   chain : (item : Part ExprTree) (operator : Part BinaryOp) → Gives (Stands P) IsPlaced item → Gives (Stands P) IsPlaced (g.chain item operator)
-  chain item operator F = next F (λ first f. next (each (operand item operator F)) (λ others os. whole (fold g.joined first others) (fold_is first others f os)))
+  chain item operator F = next F (λ first f. next (each (operand item operator F)) (λ others os. whole (fold g.binary_of first others) (fold_is first others f os)))
 
   module _ (edition : Edition) where
     module _ (u : Part ExprTree) (U : Gives (Stands P) IsPlaced u) where
@@ -135,7 +135,7 @@ module _ (P : Span → Type 0) where
       sum = chain (g.product edition u) (w.operator w.sum_op) product
 
       comparison : Gives (Stands P) IsPlaced (g.comparison edition u)
-      comparison = next sum (λ left f. next (perhaps (operand (g.sum edition u) (w.operator w.comparison_op) sum)) (λ right r. whole (g.compared left right) (compared_is left right f r)))
+      comparison = next sum (λ left f. next (perhaps (operand (g.sum edition u) (w.operator w.comparison_op) sum)) (λ right r. whole (g.comparison_of left right) (compared_is left right f r)))
 
       conjunction : Gives (Stands P) IsPlaced (g.conjunction edition u)
       conjunction = chain (g.comparison edition u) (w.operator w.and_op) comparison

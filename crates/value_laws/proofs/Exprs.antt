@@ -56,17 +56,17 @@ child_call_is c f key args q fs = record { so = λ h. (q.so h, args_bounded h ar
 unary_is : (o : Span × UnaryOp) (x : ExprTree) → IsExpr x → IsExpr (e.Unary o.0 o.1 x)
 unary_is o x f = record { so = λ h. (f.so h, tt) }
 
-joined_is : (left : ExprTree) (right : BinaryOp × ExprTree) → IsExpr left → IsExpr right.1 → IsExpr (g.joined left right)
+joined_is : (left : ExprTree) (right : BinaryOp × ExprTree) → IsExpr left → IsExpr right.1 → IsExpr (g.binary_of left right)
 joined_is left right f r = record { so = λ h. binary_bounded (place_of left) right.0 (kind_of h left) (kind_of h right.1) (resolve h left) (resolve h right.1) (f.so h) (r.so h) }
 
 abbrev IsOperand : BinaryOp × ExprTree → Type 0
 IsOperand x = IsExpr x.1
 
-fold_is : (left : ExprTree) (others : List (BinaryOp × ExprTree)) → IsExpr left → Each IsOperand others → IsExpr (fold g.joined left others)
+fold_is : (left : ExprTree) (others : List (BinaryOp × ExprTree)) → IsExpr left → Each IsOperand others → IsExpr (fold g.binary_of left others)
 fold_is left [] f os = f
-fold_is left (o ∷ others) f os = fold_is (g.joined left o) others (joined_is left o f os.0) os.1
+fold_is left (o ∷ others) f os = fold_is (g.binary_of left o) others (joined_is left o f os.0) os.1
 
-compared_is : (left : ExprTree) (right : Option (BinaryOp × ExprTree)) → IsExpr left → IfThere IsOperand right → IsExpr (g.compared left right)
+compared_is : (left : ExprTree) (right : Option (BinaryOp × ExprTree)) → IsExpr left → IfThere IsOperand right → IsExpr (g.comparison_of left right)
 compared_is left None f r = f
 compared_is left (Some right) f r = joined_is left right f r
 
@@ -97,7 +97,7 @@ operand : (item : Part ExprTree) (operator : Part BinaryOp) → Gives IsToken Is
 operand item operator F = next (any operator) (λ o _. next F (λ right f. whole (o, right) f))
 
 chain : (item : Part ExprTree) (operator : Part BinaryOp) → Gives IsToken IsExpr item → Gives IsToken IsExpr (g.chain item operator)
-chain item operator F = next F (λ first f. next (each (operand item operator F)) (λ others os. whole (fold g.joined first others) (fold_is first others f os)))
+chain item operator F = next F (λ first f. next (each (operand item operator F)) (λ others os. whole (fold g.binary_of first others) (fold_is first others f os)))
 
 module _ (edition : Edition) where
   module _ (u : Part ExprTree) (U : Gives IsToken IsExpr u) where
@@ -108,7 +108,7 @@ module _ (edition : Edition) where
     sum = chain (g.product edition u) (w.operator w.sum_op) product
 
     comparison : Gives IsToken IsExpr (g.comparison edition u)
-    comparison = next sum (λ left f. next (perhaps (operand (g.sum edition u) (w.operator w.comparison_op) sum)) (λ right r. whole (g.compared left right) (compared_is left right f r)))
+    comparison = next sum (λ left f. next (perhaps (operand (g.sum edition u) (w.operator w.comparison_op) sum)) (λ right r. whole (g.comparison_of left right) (compared_is left right f r)))
 
     conjunction : Gives IsToken IsExpr (g.conjunction edition u)
     conjunction = chain (g.comparison edition u) (w.operator w.and_op) comparison

@@ -13,7 +13,7 @@ use Rattle.mace_grammar.specs.declared.class.TheConstants.{COMPARISON_OPS, EXPR_
 use Rattle.mace_grammar.specs.declared.class.Class.{Class}
 use Rattle.mace_grammar.specs.inner.Classes as classes
 use Rattle.mace_grammar.specs.Words.{Edition, literal_word, or_op, and_op, comparison_op, sum_op, product_op, op_word, unary_word}
-use Rattle.mace_grammar.specs.Grammar.{joined}
+use Rattle.mace_grammar.specs.Grammar.{binary_of}
 use Rattle.mace_grammar.specs.inner.Run.{Reader, ◌>>=◌, ◌>>◌, give, word, choice, each, nested_reader}
 use Rattle.mace_grammar.specs.inner.Readers.Tokens.{sign_at, if_sign, name_at, field_at, separated_at}
 
@@ -62,7 +62,7 @@ module _ (edition : Edition) where
 
   -- at most so many operands more
   unfoldable pub operands_at : ℕ → Reader ExprTree → ℕ → ExprTree → Reader ExprTree
-  operands_at n item turns left = each kind (operators_of n) (operand_at (operator_at n) item) turns >>= (λ others. give (fold joined left others))
+  operands_at n item turns left = each kind (operators_of n) (operand_at (operator_at n) item) turns >>= (λ others. give (fold binary_of left others))
 
   module _ (unary : Reader ExprTree) where
     abbrev pub level_at : ℕ → Reader ExprTree
