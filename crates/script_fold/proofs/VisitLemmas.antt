@@ -163,14 +163,6 @@ moved_visited hosts earlier v after p host h same keys set =
 pub not_found : (hosts : Tree ℕ) (earlier : List (List Path)) (v : Visits) (p : Path) → IsVisited hosts earlier [] v → there hosts p ≡ true → value_at v.hosts.entries p ≡ None → ⊥
 not_found hosts earlier v p h t f = let no : false ≡ true = ap is_some (sym f) ∙ there_is hosts v.hosts.entries p h.paths ∙ t in cc
 
--- what has a load is kept as one
-pub seen_kept : (ls : List (Path × Load)) (p : Path) (l : Load) → l ≡ load_at ls p → (l.last ≡ 0 → ⊥) → is_some (value_at ls p) ≡ true
-seen_kept ls p l is some = by_found (value_at ls p) refl
-  where
-    by_found : (o : Option Load) → value_at ls p ≡ o → is_some (value_at ls p) ≡ true
-    by_found (Some k) e = ap is_some e
-    by_found None e = absurd (some (ap (λ (l : Load). l.last) is ∙ ap (λ o. (unwrap_or o no_load).last) e))
-
 pub no_entry : {V : Type 0} (es : List (Path × V)) (p : Path) → is_some (value_at es p) ≡ false → value_at es p ≡ None
 no_entry {V} es p none = by_found (value_at es p) refl
   where

@@ -7,7 +7,7 @@ ghost use Rattle.wave_base.specs.declared.path.Path.{Path};
 ghost use Rattle.wave_base.specs.Paths.{path_cmp, parent_of};
 ghost use Rattle.wave_base.specs.Places.{with_context, with_contexts, after_job, move_in};
 ghost use Rattle.wave_base.specs.Tree.{Tree, put, there};
-ghost use Rattle.script_fold.specs.inner.Visiting.{AreInOrder, IsVisited, IsMoveWithin, host_at, load_at, with_job, place_in, loads_in};
+ghost use Rattle.script_fold.specs.inner.Visiting.{AreInOrder, IsVisited, IsMoveWithin, host_at, load_at, no_load, with_job, place_in, loads_in};
 ghost use Rattle.script_fold.specs.Lives.{has_load, is_at};
 
 use std::alloc::Global;
@@ -92,24 +92,37 @@ impl Visits {
         }
     }
 
-    // A context that a job enters.
+    // A context that a job enters. The load of one that has some is counted where it stands.
     fn enter(&mut self, job: u64, path: &Path) -> Result<(), OutOfMemory>
         requires { (hosts : Tree ℕ) × (earlier : List (List Path)) × (now : List Path) × (job ≡ suc (length earlier)) × IsVisited hosts earlier now self.old }
         ensures { (hosts : Tree ℕ) (earlier : List (List Path)) (now : List Path) → job ≡ suc (length earlier) → IsVisited hosts earlier now self.old → OnOk result (IsVisited (with_context hosts path.now) earlier (now ++ path.now ∷ []) self.new) }
     {
-        let load = self.load_of(path);
-        self.join(path, load)?;
-        self.loads.insert(*path, load.with_job(job))?;
+        match self.loads.get_mut(path) {
+            Some(load) => {
+                *load = load.with_job(job);
+                Ok(())
+            }
+            None => self.enter_first(job, path),
+        }
+    }
+
+    // A context that no job has entered yet.
+    fn enter_first(&mut self, job: u64, path: &Path) -> Result<(), OutOfMemory>
+        requires { load_at self.old.loads.entries path.now ≡ no_load }
+        ensures { (hosts : Tree ℕ) (earlier : List (List Path)) (now : List Path) → job ≡ suc (length earlier) → IsVisited hosts earlier now self.old → OnOk result (IsVisited (with_context hosts path.now) earlier (now ++ path.now ∷ []) self.new) }
+    {
+        self.join(path)?;
+        let unseen = Load { count: 0, last: 0 };
+        self.loads.insert(*path, unseen.with_job(job))?;
         Ok(())
     }
 
-    // A context is there, as one with a load is: a new one is where its parent is.
-    fn join(&mut self, path: &Path, load: Load) -> Result<(), OutOfMemory>
-        requires { load ≡ load_at self.old.loads.entries path.now }
+    // A context is there: a new one is where its parent is.
+    fn join(&mut self, path: &Path) -> Result<(), OutOfMemory>
         ensures loads { self.new.loads ≡ self.old.loads }
         ensures visited { (hosts : Tree ℕ) (earlier : List (List Path)) (now : List Path) → IsVisited hosts earlier now self.old → OnOk result (IsVisited (with_context hosts path.now) earlier now self.new) }
     {
-        if load.last != 0 || self.hosts.contains_key(path) {
+        if self.hosts.contains_key(path) {
             return Ok(());
         }
         let host = self.host_of(&parent(path));

@@ -1,13 +1,15 @@
-use Rattle.std.proofs.Common.{◌∙◌, ap, refl, subst, sym}
+use Rattle.std.proofs.Common.{◌∙◌, ap, is_some, refl, subst, sym, unwrap_or}
 use Rattle.wave_base.specs.Places.{with_context}
-use Rattle.script_fold.specs.inner.Visiting.{load_at, with_job}
-use Rattle.script_fold.proofs.VisitLemmas.{context_there, counted_visited, Sets}
+use Rattle.script_fold.specs.inner.Visiting.{no_load, with_job}
+use Rattle.script_fold.proofs.VisitLemmas.{context_there, counted_visited, joined_known, Sets}
 use Rattle.script_fold.proofs.visits.Visits.enter.Goals as goal
 
-pub returns : goal.returns
-returns c =
+pub returns-in-Some : goal.returns-in-Some
+returns-in-Some c =
     λ hosts earlier now at h.
+    let v = c.args.self.now in
     let p = c.args.path.now in
-    let load = c.with_job.ensures ∙ ap (with_job c.args.job) (c.load_of-load.ensures ∙ (λ i. load_at (sym c.join.ensures.loads i).entries p)) in
-    counted_visited (with_context hosts p) earlier now c.join.new.self _ c.args.job p at (c.in_ok-join.ensures.visited hosts earlier now h) (context_there hosts p) refl
-    (subst (Sets c.join.new.self.loads.entries c.insert.new.self.entries p) load c.in_ok-insert.ensures.updates.0)
+    let some = sym c.in-Some.ensures.value in
+    let load = c.with_job.ensures ∙ ap (λ o. with_job c.args.job (unwrap_or o no_load)) (sym some) in
+    counted_visited (with_context hosts p) earlier now v _ c.args.job p at (joined_known hosts earlier now v v p h refl refl (h.within p (ap is_some some))) (context_there hosts p) refl
+    (subst (Sets v.loads.entries _ p) load ((c.get_mut.follows.holds c.with_job.result).3 (ap is_some some)).0)

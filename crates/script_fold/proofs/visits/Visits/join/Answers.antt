@@ -2,18 +2,13 @@ use Rattle.std.proofs.Common.{◌∙◌, ap, refl, subst, sym}
 use Rattle.std.specs.BTreeMap.{insert_entry}
 use Rattle.wave_base.specs.Paths.{path_cmp}
 use Rattle.script_fold.specs.inner.Visiting.{host_at}
-use Rattle.script_fold.proofs.VisitLemmas.{Sets, joined_known, joined_new, no_entry, seen_kept, there_is}
+use Rattle.script_fold.proofs.VisitLemmas.{Sets, joined_known, joined_new, no_entry, there_is}
 use Rattle.script_fold.proofs.visits.Visits.join.Goals as goal
-use Rattle.script_fold.proofs.visits.Visits.join.Goals.{then-load-ne0-via-then-load-ne0, then-load-ne0-via-else-load-ne0+then-contains_key}
 
-pub returns-then-load-ne0-clause-visited : goal.returns-then-load-ne0-clause-visited
-returns-then-load-ne0-clause-visited c =
-    elim c.then-load-ne0.branch [
-      | then-load-ne0-via-then-load-ne0 w ↦ λ hosts earlier now h.
-          joined_known hosts earlier now c.args.self.now c.args.self.now c.args.path.now h refl refl (h.within c.args.path.now (seen_kept c.args.self.now.loads.entries c.args.path.now c.args.load c.requires w.if-load-ne0.true))
-      | then-load-ne0-via-else-load-ne0+then-contains_key w ↦ λ hosts earlier now h.
-          joined_known hosts earlier now c.args.self.now c.args.self.now c.args.path.now h refl refl (sym (there_is hosts c.args.self.now.hosts.entries c.args.path.now h.paths) ∙ sym w.contains_key.ensures ∙ w.if-contains_key.true)
-    ]
+pub returns-then-contains_key-clause-visited : goal.returns-then-contains_key-clause-visited
+returns-then-contains_key-clause-visited c =
+    λ hosts earlier now h.
+    joined_known hosts earlier now c.args.self.now c.args.self.now c.args.path.now h refl refl (sym (there_is hosts c.args.self.now.hosts.entries c.args.path.now h.paths) ∙ sym c.contains_key.ensures ∙ c.if-contains_key.true)
 
 pub returns-clause-visited : goal.returns-clause-visited
 returns-clause-visited c =
