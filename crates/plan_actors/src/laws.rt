@@ -100,7 +100,7 @@ pub fn runs_are_short()
     ensures most { OfRuns (λ plan start labels s. length labels ≤ most_labels plan start) }
     ensures finished { OfWholeRuns (λ plan start labels s. length labels ≡ least_labels plan start + pass_count labels) }
 {
-    bounded::<PlanActors>();
+    label_bounds::<PlanActors>();
     complete::<PlanActors>();
     loads::<PlanActors>();
     results::<PlanActors>();
@@ -111,5 +111,5 @@ pub fn runs_are_short()
 pub fn plans_drive()
     ensures { (plan : Plan) (start : Start) → Fits plan → FitsStart plan start → (rule : runs.Rule Actor Fields EventResult Line) → Picks rule → (x : ℕ) → HasDrive (plan_kind plan.program plan.script.hosts) plan.workers (begin_in plan start) plan.script.batches rule x }
 {
-    driven::<PlanActors>();
+    drives_end::<PlanActors>();
 }

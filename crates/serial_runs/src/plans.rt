@@ -49,14 +49,14 @@ pub fn plans_drive_serially()
 pub fn plans_come_in_order()
     ensures { AtPlans Came }
 {
-    came::<PlanActors>();
+    arrivals::<PlanActors>();
 }
 
 /// The labels tell the trail of each context.
 pub fn plans_leave_trails()
     ensures { AtPlans Traced }
 {
-    traced::<PlanActors>();
+    trails_are_told::<PlanActors>();
 }
 
 /// Each label of a plan's journal, wherever it stands, is taken by a host that owns its context just before it or just after it.
@@ -70,7 +70,7 @@ pub fn plans_have_owners()
 pub fn plans_keep_records()
     ensures { AtPlans Recorded }
 {
-    recorded::<PlanActors>();
+    records_agree::<PlanActors>();
 }
 
 /// Each ticket of a plan has one origin: a line of the script, or a call that an earlier ticket created.

@@ -13,7 +13,7 @@ pub fn runs_are_measured()
     ensures finished { FinishedRunsAreMeasured }
     ensures passes { HoldsOver Bounded }
 {
-    bounded::<PlanActors>();
+    label_bounds::<PlanActors>();
     runs_are_short();
 }
 

@@ -26,7 +26,7 @@ fn first_of(machine: &Machine) -> Result<Option<Label>, OutOfMemory>
     ensures { IfOk result (λ o. IfSome o (λ l. IsEnabled machine.now.kept (label_of l))) }
 {
     machine_stands(machine);
-    listed::<PlanActors>();
+    lists_are_exact::<PlanActors>();
     let labels = machine.enabled_labels()?;
     match labels.get(0) {
         Some(label) => Ok(Some(*label)),
