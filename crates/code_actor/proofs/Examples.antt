@@ -14,10 +14,10 @@ use Rattle.value_ops.specs.Operators.{operators, takes_of, gives_of, apply_row}
 use Rattle.service_verify.specs.Boxes.{first_box}
 use Rattle.service_verify.specs.Looks.{peeks, is_quiet_function}
 use Rattle.service_verify.specs.Points.{judged_function, judged_from, visit, point_after}
-use Rattle.service_verify.specs.Reads.{kept}
+use Rattle.service_verify.specs.Reads.{read_marks}
 use Rattle.service_verify.specs.Rules.{effect_of, levels_above}
 use Rattle.service_verify.specs.Segments.{Event, weight, enough, steps, segment}
-use Rattle.service_verify.specs.Steps.{acted, one_step}
+use Rattle.service_verify.specs.Steps.{act_move, one_step}
 use Rattle.service_verify.proofs.Samples.{market}
 use Rattle.wave_states.specs.Alone.{Alone, after_segments, first_alone}
 use Rattle.wave_states.specs.Begins.{first_begin, start_state}
@@ -54,15 +54,15 @@ buying n = after_segments (code_actors market) n (first_alone (code_actors marke
 
 -- it goes down for good, and gives up what is above
 holds_the_hall : (buying 1).held ≡ hall ∷ []
-unfolding after_segments segment steps enough weight one_step acted first_box takes_of gives_of apply_row operators kept peeks is_quiet_function judged_function judged_from visit point_after effect_of levels_above
+unfolding after_segments segment steps enough weight one_step act_move first_box takes_of gives_of apply_row operators read_marks peeks is_quiet_function judged_function judged_from visit point_after effect_of levels_above
 holds_the_hall = refl
 
 holds_the_stall : (buying 2).held ≡ stall 1 ∷ []
-unfolding after_segments segment steps enough weight one_step acted first_box takes_of gives_of apply_row operators kept peeks is_quiet_function judged_function judged_from visit point_after effect_of levels_above
+unfolding after_segments segment steps enough weight one_step act_move first_box takes_of gives_of apply_row operators read_marks peeks is_quiet_function judged_function judged_from visit point_after effect_of levels_above
 holds_the_stall = refl
 
 is_sold : (buying 3).result ≡ Some sold
-unfolding after_segments segment steps enough weight one_step acted first_box takes_of gives_of apply_row operators kept peeks is_quiet_function judged_function judged_from visit point_after effect_of levels_above
+unfolding after_segments segment steps enough weight one_step act_move first_box takes_of gives_of apply_row operators read_marks peeks is_quiet_function judged_function judged_from visit point_after effect_of levels_above
 is_sold = refl
 
 -- a call into two stalls alone: it comes back, and holds all of them to its end
@@ -70,11 +70,11 @@ abbrev pairing : ℕ → Alone Event Fields EventResult
 pairing n = after_segments (code_actors market) n (first_alone (code_actors market) pair 1 (first_tree market.shape))
 
 holds_both : (pairing 4).held ≡ hall ∷ stall 1 ∷ stall 2 ∷ []
-unfolding after_segments segment steps enough weight one_step acted first_box takes_of gives_of apply_row operators kept peeks is_quiet_function judged_function judged_from visit point_after effect_of levels_above
+unfolding after_segments segment steps enough weight one_step act_move first_box takes_of gives_of apply_row operators read_marks peeks is_quiet_function judged_function judged_from visit point_after effect_of levels_above
 holds_both = refl
 
 is_back : (pairing 5).at ≡ hall
-unfolding after_segments segment steps enough weight one_step acted first_box takes_of gives_of apply_row operators kept peeks is_quiet_function judged_function judged_from visit point_after effect_of levels_above
+unfolding after_segments segment steps enough weight one_step act_move first_box takes_of gives_of apply_row operators read_marks peeks is_quiet_function judged_function judged_from visit point_after effect_of levels_above
 is_back = refl
 
 -- both in the machine, by two workers
@@ -88,5 +88,5 @@ abbrev results : Option (State Event Fields EventResult Call) → Option (ℕ ×
 results o = option_map (λ s. (s.head.done, (s.cells 1).result, (s.cells 2).result)) o
 
 both_done : results driven ≡ Some (2, Some sold, Some (record { outcome = Replied (int 15); messages = []; created = [] }))
-unfolding machine.step run enabled drive segment steps enough weight one_step acted first_box takes_of gives_of apply_row operators kept peeks is_quiet_function judged_function judged_from visit point_after effect_of levels_above
+unfolding machine.step run enabled drive segment steps enough weight one_step act_move first_box takes_of gives_of apply_row operators read_marks peeks is_quiet_function judged_function judged_from visit point_after effect_of levels_above
 both_done = refl

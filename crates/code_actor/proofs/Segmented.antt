@@ -18,7 +18,7 @@ use Rattle.service_verify.specs.Fit.{IsFit}
 use Rattle.service_verify.specs.Points.{IsVerified}
 use Rattle.service_verify.specs.Looks.{is_peeking}
 use Rattle.service_verify.specs.Lawful.{OnlyLooks}
-use Rattle.service_verify.specs.Reads.{kept}
+use Rattle.service_verify.specs.Reads.{read_marks}
 use Rattle.service_verify.specs.Segments.{Event, Left as Halted, segment, event_segment}
 use Rattle.service_verify.specs.Standing.{HasFields, Leaves, Pauses, Stands}
 use Rattle.service_verify.proofs.Judged.{some_same}
@@ -57,7 +57,7 @@ module _ (program : Program) (fit : IsFit program) (verified : IsVerified progra
   pub segment_runs : (p : Path) (n : ℕ) (e : Event) (fields : Fields) → Stands program p n e → HasFields program.shape p fields → Runs p n e fields
   segment_runs p n e fields stands has =
       let a : Pauses program p n e fields = pauses program fit verified p n e fields stands has in
-      record { left = a.left; is_left = a.is_left; has = a.has_fields; leaves = a.leaves; holds = left_keeps_by (kept program (class_of e.box.path)) e.levels e.box.path e.box.held (segment program e.levels e.box fields) a.left a.is_left (segment_keeps program e.levels e.box fields) }
+      record { left = a.left; is_left = a.is_left; has = a.has_fields; leaves = a.leaves; holds = left_keeps_by (read_marks program (class_of e.box.path)) e.levels e.box.path e.box.held (segment program e.levels e.box fields) a.left a.is_left (segment_keeps program e.levels e.box fields) }
 
   pub segment_kept : (p : Path) (n : ℕ) (e : Event) (fields : Fields) → Stands program p n e → HasFields program.shape p fields → HasFields program.shape p (left_of e fields (event_segment program e fields)).fields
   segment_kept p n e fields stands has =

@@ -19,7 +19,7 @@ use Rattle.service_verify.specs.Boxes.{Frame, Box}
 use Rattle.service_verify.specs.Fit.{IsFit}
 use Rattle.service_verify.specs.Points.{IsVerified}
 use Rattle.service_verify.specs.Standing.{MovesOn}
-use Rattle.service_verify.specs.Steps.{Move, Runs, Paused, Lost, with_some, acts, acted, trap_move, one_step, is_held, code_of, places_of}
+use Rattle.service_verify.specs.Steps.{Move, Runs, Paused, Lost, with_some, acts, act_move, trap_move, one_step, is_held, code_of, places_of}
 use Rattle.service_verify.specs.Tours.{Fields, fields_above, Tour}
 use Rattle.code_scheme.specs.Scheme.{Line, line}
 use Rattle.code_scheme.proofs.Micro.{resumed, move_of, micro_if, micro, micros, micros_none, micros_more, micros_add, Alive, moves_on, stays_alive}
@@ -137,10 +137,10 @@ module _ (program : Program) (fit : IsFit program) (verified : IsVerified progra
   }
 
   line_move : (h : Here) (pc : ℕ) (s : List Value) (st : State) (held : List Path) (i : Instr) (at : Span) → IsLine h.fn pc i at → move_of program (tour_of h pc s st held) ≡ move_at h pc s st held i at
-  unfolding one_step acted
+  unfolding one_step act_move
   line_move h pc s st held i at l =
-      ap (λ o. with_some o (λ i. with_some (slice_get (places_of (slice_get program.functions h.fn)) pc) (λ at. acted program (fields_above st.world.tree h.at) i at (frame_of h pc s st.locals) h.below (box_of h pc s st held) (st.world.tree.fields h.at)))) l.instr
-      ∙ ap (λ o. with_some o (λ at. acted program (fields_above st.world.tree h.at) i at (frame_of h pc s st.locals) h.below (box_of h pc s st held) (st.world.tree.fields h.at))) l.place
+      ap (λ o. with_some o (λ i. with_some (slice_get (places_of (slice_get program.functions h.fn)) pc) (λ at. act_move program (fields_above st.world.tree h.at) i at (frame_of h pc s st.locals) h.below (box_of h pc s st held) (st.world.tree.fields h.at)))) l.instr
+      ∙ ap (λ o. with_some o (λ at. act_move program (fields_above st.world.tree h.at) i at (frame_of h pc s st.locals) h.below (box_of h pc s st held) (st.world.tree.fields h.at))) l.place
 
   module _ (h : Here) (pc : ℕ) (s : List Value) (st : State) (t : Tour) (a : At h pc s st t) (i : Instr) (at : Span) (l : IsLine h.fn pc i at) where
     -- it never loses its way

@@ -18,7 +18,7 @@ use Rattle.service_verify.specs.Fit.{IsFit}
 use Rattle.service_verify.specs.Points.{IsVerified}
 use Rattle.service_verify.specs.Segments.{go_on, enough, steps, segment}
 use Rattle.service_verify.specs.Standing.{MovesOn}
-use Rattle.service_verify.specs.Steps.{Move, Runs, Paused, Lost, one_step, frames_step, acted, places_of, is_held}
+use Rattle.service_verify.specs.Steps.{Move, Runs, Paused, Lost, one_step, frames_step, act_move, places_of, is_held}
 use Rattle.service_verify.specs.Tours.{Fields, fields_from, fields_above, Tour, tree_with, into, tour_at_pause, tour_with, tour_if, next_tour, tour_after}
 use Rattle.service_verify.proofs.Lasting.{HasStopped, ends}
 use Rattle.service_verify.proofs.Ways.{OnRun, some_run}
@@ -53,7 +53,7 @@ step_held program levels b fields = go b.frames
   where
     go : (fs : List Frame) → OnRun (λ b'. b'.held ≡ b.held) (frames_step program levels fs b fields)
     go [] = tt
-    go (f ∷ below) = some_run (λ b'. b'.held ≡ b.held) _ _ (λ i is. some_run (λ b'. b'.held ≡ b.held) (slice_get (places_of (slice_get program.functions f.function)) f.place) (λ at. acted program levels i at f below b fields) (λ at is'. acted_held program levels f below b fields at i))
+    go (f ∷ below) = some_run (λ b'. b'.held ≡ b.held) _ _ (λ i is. some_run (λ b'. b'.held ≡ b.held) (slice_get (places_of (slice_get program.functions f.function)) f.place) (λ at. act_move program levels i at f below b fields) (λ at is'. acted_held program levels f below b fields at i))
 
 -- in the middle of a segment, with these fields in hand
 abbrev mid : Tour → Box → Fields → Tour

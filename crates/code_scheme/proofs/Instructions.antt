@@ -27,7 +27,7 @@ use Rattle.service_code.specs.declared.program.Program.{Program}
 use Rattle.service_verify.specs.Boxes.{Box, first_locals}
 use Rattle.service_verify.specs.Fit.{IsFit}
 use Rattle.service_verify.specs.Points.{IsVerified}
-use Rattle.service_verify.specs.Steps.{Move, Runs, Lost, with_some, taken_values, has_kinds, with_operands, answer_move, trap_move, on_int, created, ticking, put_row, cut_row}
+use Rattle.service_verify.specs.Steps.{Move, Runs, Lost, with_some, taken_values, has_kinds, with_operands, answer_move, trap_move, on_int, spawn_move, ticking, put_row, cut_row}
 use Rattle.service_verify.specs.Tours.{Tour, Fields, fields_from, fields_above}
 use Rattle.code_scheme.specs.Texts.{Text, place_of_text}
 use Rattle.code_scheme.proofs.Follow.{Here, frame_of, box_of, Moving, At, Leads, place_is, Follows, lead_in, done, move_at, IsLine, moving, runs_on, steps_on, traps}
@@ -285,7 +285,7 @@ module _ (program : Program) (fit : IsFit program) (verified : IsVerified progra
       go b d = if b then stop trap.Generation else (if d then Runs (box_of h (suc pc) s (record { locals = st.locals; world = kept }) a.held) (st.world.tree.fields h.at) else stop trap.Spawns)
 
       made : List Value × List Value → Move
-      made u = created program (fields_above st.world.tree h.at) (box_of h pc (pushed vs s) st a.held) h.below (frame_of h (suc pc) u.1 st.locals) (st.world.tree.fields h.at) at (record { event = event; args = u.0; generation = suc st.world.generation })
+      made u = spawn_move program (fields_above st.world.tree h.at) (box_of h pc (pushed vs s) st a.held) h.below (frame_of h (suc pc) u.1 st.locals) (st.world.tree.fields h.at) at (record { event = event; args = u.0; generation = suc st.world.generation })
 
       is : move_at program fit verified h pc (pushed vs s) st a.held ins at ≡ go (st.world.generation == GENERATION) (nat_lt (length st.world.created) SPAWNS)
       is =

@@ -26,7 +26,7 @@ use Rattle.service_code.specs.declared.instr.Instr.TheVariants.{PushInt, PushBoo
 use Rattle.service_code.specs.declared.program.Program.{Program}
 use Rattle.service_verify.specs.Boxes.{Frame, Box}
 use Rattle.service_verify.specs.Segments.{go_on, enough, steps, segment}
-use Rattle.service_verify.specs.Steps.{Move, Runs, Paused, Lost, with_some, on_top, on_truth, on_int, truth_of, int_of, taken_values, has_kinds, is_held, trap_move, end_move, answer_move, put_row, cut_row, step_to, entering, ticking, next_with, frame_at, with_result, runs, left, called, sent, created, code_of, places_of, acts, acted, frames_step, one_step}
+use Rattle.service_verify.specs.Steps.{Move, Runs, Paused, Lost, with_some, on_top, on_truth, on_int, truth_of, int_of, taken_values, has_kinds, is_held, trap_move, end_move, answer_move, put_row, cut_row, step_to, entering, ticking, next_with, frame_at, with_result, runs, left, box_in_call, send_move, spawn_move, code_of, places_of, acts, act_move, frames_step, one_step}
 
 -- an event that held these and had entered so many pauses in a context: one more is entered where it is not held, and there is room
 abbrev pub Goes : List Path → ℕ → Box → Type 0
@@ -121,19 +121,19 @@ module _ (program : Program) (levels : List Level) (f : Frame) (below : List Fra
   keeps (Jump i) = (refl, refl)
   keeps (JumpFalse i) = truth_keeps b.held b.entered f.stack (λ x rest. runs program levels b below (if x then next_with f rest else frame_at f i rest) fields) (λ c rest. (refl, refl))
   keeps Tick = tick_keeps b.held b.entered b.ticks (λ n. runs program levels (record b { ticks = n }) below (next_with f f.stack) fields) (trap_move trap.Ticks at b fields) (λ n. (refl, refl)) (trap_keeps trap.Ticks)
-  keeps (CallOwn g) = some_keeps b.held b.entered (slice_get program.functions g) (λ callee. with_some (taken_values (length callee.args) [] f.stack) (λ t. Runs (called program levels b f below t.1 g false callee t.0) fields)) (λ callee. some_keeps b.held b.entered (taken_values (length callee.args) [] f.stack) (λ t. Runs (called program levels b f below t.1 g false callee t.0) fields) (λ t. (refl, refl)))
-  keeps (CallDown c g) = some_keeps b.held b.entered (slice_get program.functions g) _ (λ callee. some_keeps b.held b.entered (taken_values (length callee.args) [] f.stack) _ (λ t. int_keeps b.held b.entered t.1 _ (λ key rest. enter_keeps b.held b.entered (b.path ++ step_to program levels c.0 key ∷ []) b (λ b'. Paused (record (called program levels b' f below rest g true callee t.0) { path = b.path ++ step_to program levels c.0 key ∷ [] }) fields (pause.Down (step_to program levels c.0 key))) (trap_move trap.Reach at b fields) (λ more entered is. is) (trap_keeps trap.Reach))))
+  keeps (CallOwn g) = some_keeps b.held b.entered (slice_get program.functions g) (λ callee. with_some (taken_values (length callee.args) [] f.stack) (λ t. Runs (box_in_call program levels b f below t.1 g false callee t.0) fields)) (λ callee. some_keeps b.held b.entered (taken_values (length callee.args) [] f.stack) (λ t. Runs (box_in_call program levels b f below t.1 g false callee t.0) fields) (λ t. (refl, refl)))
+  keeps (CallDown c g) = some_keeps b.held b.entered (slice_get program.functions g) _ (λ callee. some_keeps b.held b.entered (taken_values (length callee.args) [] f.stack) _ (λ t. int_keeps b.held b.entered t.1 _ (λ key rest. enter_keeps b.held b.entered (b.path ++ step_to program levels c.0 key ∷ []) b (λ b'. Paused (record (box_in_call program levels b' f below rest g true callee t.0) { path = b.path ++ step_to program levels c.0 key ∷ [] }) fields (pause.Down (step_to program levels c.0 key))) (trap_move trap.Reach at b fields) (λ more entered is. is) (trap_keeps trap.Reach))))
   keeps Return = some_keeps b.held b.entered (slice_get program.functions f.function) (λ own. with_result own.result f.stack (λ x. left program levels b f below fields x)) (λ own. result_keeps b.held b.entered own.result f.stack (λ x. left program levels b f below fields x) (λ x. left_keeps x))
   keeps Pop = top_keeps b.held b.entered f.stack (λ x rest. runs program levels b below (next_with f rest) fields) (λ x rest. (refl, refl))
   keeps Require = truth_keeps b.held b.entered f.stack (λ x rest. if x then runs program levels b below (next_with f rest) fields else trap_move trap.Require at b fields) (λ c rest. if_keeps b.held b.entered c (runs program levels b below (next_with f rest) fields) (trap_move trap.Require at b fields) (refl, refl) (trap_keeps trap.Require))
-  keeps (Send t) = some_keeps b.held b.entered (slice_get program.texts t) (λ label. on_top f.stack (λ x rest. sent program levels b below (next_with f rest) fields at (record { label = label; value = x }))) (λ label. top_keeps b.held b.entered f.stack (λ x rest. sent program levels b below (next_with f rest) fields at (record { label = label; value = x })) (λ x rest. if_keeps b.held b.entered (nat_lt (length b.kept.messages) MESSAGES) _ (trap_move trap.Sends at b fields) (refl, refl) (trap_keeps trap.Sends)))
-  keeps (Spawn e) = some_keeps b.held b.entered (slice_get program.shape.events e) (λ event. with_some (taken_values (length event.params) [] f.stack) (λ t. created program levels b below (next_with f t.1) fields at (record { event = e; args = t.0; generation = suc b.generation }))) (λ event. some_keeps b.held b.entered (taken_values (length event.params) [] f.stack) (λ t. created program levels b below (next_with f t.1) fields at (record { event = e; args = t.0; generation = suc b.generation })) (λ t. if_keeps b.held b.entered (b.generation == GENERATION) (trap_move trap.Generation at b fields) _ (trap_keeps trap.Generation) (if_keeps b.held b.entered (nat_lt (length b.kept.created) SPAWNS) (runs program levels (record b { kept = with_call b.kept (record { event = e; args = t.0; generation = suc b.generation }) }) below (next_with f t.1) fields) (trap_move trap.Spawns at b fields) (refl, refl) (trap_keeps trap.Spawns))))
+  keeps (Send t) = some_keeps b.held b.entered (slice_get program.texts t) (λ label. on_top f.stack (λ x rest. send_move program levels b below (next_with f rest) fields at (record { label = label; value = x }))) (λ label. top_keeps b.held b.entered f.stack (λ x rest. send_move program levels b below (next_with f rest) fields at (record { label = label; value = x })) (λ x rest. if_keeps b.held b.entered (nat_lt (length b.kept.messages) MESSAGES) _ (trap_move trap.Sends at b fields) (refl, refl) (trap_keeps trap.Sends)))
+  keeps (Spawn e) = some_keeps b.held b.entered (slice_get program.shape.events e) (λ event. with_some (taken_values (length event.params) [] f.stack) (λ t. spawn_move program levels b below (next_with f t.1) fields at (record { event = e; args = t.0; generation = suc b.generation }))) (λ event. some_keeps b.held b.entered (taken_values (length event.params) [] f.stack) (λ t. spawn_move program levels b below (next_with f t.1) fields at (record { event = e; args = t.0; generation = suc b.generation })) (λ t. if_keeps b.held b.entered (b.generation == GENERATION) (trap_move trap.Generation at b fields) _ (trap_keeps trap.Generation) (if_keeps b.held b.entered (nat_lt (length b.kept.created) SPAWNS) (runs program levels (record b { kept = with_call b.kept (record { event = e; args = t.0; generation = suc b.generation }) }) below (next_with f t.1) fields) (trap_move trap.Spawns at b fields) (refl, refl) (trap_keeps trap.Spawns))))
   keeps (Go c) = int_keeps b.held b.entered f.stack _ (λ key rest. enter_keeps b.held b.entered (b.path ++ step_to program levels c.0 key ∷ []) b (λ b'. Paused (record b' { frames = next_with f rest ∷ below; path = b.path ++ step_to program levels c.0 key ∷ []; held = filter (is_above (b.path ++ step_to program levels c.0 key ∷ [])) b'.held }) fields (pause.Go (step_to program levels c.0 key))) (trap_move trap.Reach at b fields) (λ more entered is. is) (trap_keeps trap.Reach))
   keeps Reply = top_keeps b.held b.entered f.stack (λ x rest. end_move (Replied x) b fields) (λ x rest. refl)
   keeps End = refl
 
-  acted_keeps : (i : Instr) → Kept (acted program levels i at f below b fields)
-  unfolding acted
+  acted_keeps : (i : Instr) → Kept (act_move program levels i at f below b fields)
+  unfolding act_move
   acted_keeps i = keeps i
 
 module _ (program : Program) (levels : List Level) where
@@ -144,8 +144,8 @@ module _ (program : Program) (levels : List Level) where
       go : (fs : List Frame) → Keeps b.held b.entered (frames_step program levels fs b fields)
       go [] = tt
       go (f ∷ below) =
-          some_keeps b.held b.entered (slice_get (code_of (slice_get program.functions f.function)) f.place) (λ i. with_some (slice_get (places_of (slice_get program.functions f.function)) f.place) (λ at. acted program levels i at f below b fields)) (λ i.
-          some_keeps b.held b.entered (slice_get (places_of (slice_get program.functions f.function)) f.place) (λ at. acted program levels i at f below b fields) (λ at. acted_keeps program levels f below b fields at i))
+          some_keeps b.held b.entered (slice_get (code_of (slice_get program.functions f.function)) f.place) (λ i. with_some (slice_get (places_of (slice_get program.functions f.function)) f.place) (λ at. act_move program levels i at f below b fields)) (λ i.
+          some_keeps b.held b.entered (slice_get (places_of (slice_get program.functions f.function)) f.place) (λ at. act_move program levels i at f below b fields) (λ at. acted_keeps program levels f below b fields at i))
 
   steps_keep : (m : ℕ) (b : Box) (fields : List Value) (held : List Path) (n : ℕ) → b.held ≡ held → b.entered ≡ n → Keeps held n (steps program levels m b fields)
   unfolding steps

@@ -5,7 +5,7 @@ use Rattle.std.proofs.lemmas.List.Elements.{All-nil, All-cons, All-append}
 use Rattle.wave_base.specs.declared.memory.OutOfMemory.{OutOfMemory}
 use Rattle.wave_base.specs.declared.numbers.Worker.{Worker}
 use Rattle.kept_lock.specs.declared.view.Known.{Known}
-use Rattle.kept_lock.specs.Knowing.{entered, left_at}
+use Rattle.kept_lock.specs.Knowing.{pass_inside, left_at}
 use Rattle.kept_lock.specs.History.{Adds}
 use Rattle.wave_labels.specs.Labels.{act_of}
 use Rattle.wave_states.specs.Labels as theory
@@ -63,7 +63,7 @@ module _ (o : Origin) (k : Known Trail) (w : Worker) (ready : IsReady o k w) (y 
     adds (Ok (Stopped why)) h = adds_none k.number (history_of y) (history_of z) h.1
     adds (Err e) h = adds_none k.number (history_of y) (history_of z) h
 
-    module _ (k' : Known Trail) (is : k' ≡ left_at (entered k (history_of y)) (history_of z)) where
+    module _ (k' : Known Trail) (is : k' ≡ left_at (pass_inside k (history_of y)) (history_of z)) where
       same : history_of z ≡ history_of y → Left k k' z []
       same h = left_same k k' y z is h meets.agrees.0
 

@@ -6,7 +6,7 @@ use Rattle.wave_base.specs.declared.numbers.Worker.{Worker}
 use Rattle.wave_base.specs.declared.pause.Pause.{Pause}
 use Rattle.kept_lock.specs.declared.view.Known.{Known}
 use Rattle.kept_lock.specs.History.{Adds}
-use Rattle.kept_lock.specs.Knowing.{entered, left_at}
+use Rattle.kept_lock.specs.Knowing.{pass_inside, left_at}
 use Rattle.kept_lock.proofs.Entries.{starts_whole}
 use Rattle.wave_states.specs.Labels as theory
 use Rattle.plan_actors.specs.Plans.{Plan}
@@ -66,7 +66,7 @@ module _ (o : Origin) (k : Known Trail) (w : Worker) (y : Board) (meets : Finds 
       own_given = All-cons (λ e. owner_of e ≡ k.number) (Step h.label) [] mine (All-nil (λ e. owner_of e ≡ k.number))
 
       -- the worker has given back each segment then
-      pub ready_given : (k' : Known Trail) → k' ≡ left_at (entered k (history_of y)) (history_of z) → IsReady o k' w
+      pub ready_given : (k' : Known Trail) → k' ≡ left_at (pass_inside k (history_of y)) (history_of z) → IsReady o k' w
       ready_given k' is =
           let x = left k k' y z (Step h.label ∷ []) is h.history meets.agrees.0 in
           let act = ap (λ (l : theory.Label). l.act) h.is_stop in
@@ -94,7 +94,7 @@ module _ (o : Origin) (k : Known Trail) (w : Worker) (y : Board) (meets : Finds 
       pub halted : IsHalted k'.seen
       pub own : OnlyHalts k'.made why
 
-    pub halts : (k' : Known Trail) → k' ≡ left_at (entered k (history_of y)) (history_of z) → Stopped k'
+    pub halts : (k' : Known Trail) → k' ≡ left_at (pass_inside k (history_of y)) (history_of z) → Stopped k'
     halts k' is = by_word y.word refl
       where
         by_word : (x : Option StopWord) → y.word ≡ x → Stopped k'

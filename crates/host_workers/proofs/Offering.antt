@@ -13,7 +13,7 @@ use Rattle.wave_base.specs.declared.start.Start.{Start}
 use Rattle.wave_base.specs.Fold.{Head}
 use Rattle.kept_lock.specs.declared.view.Known.{Known}
 use Rattle.kept_lock.specs.History.{Adds, StartsWith}
-use Rattle.kept_lock.specs.Knowing.{entered, left_at}
+use Rattle.kept_lock.specs.Knowing.{pass_inside, left_at}
 use Rattle.listing_out.specs.Parts.{IsShownAt}
 use Rattle.script_fold.specs.Runs.{finished_of}
 use Rattle.plan_actors.specs.Calls.{code_ran}
@@ -125,7 +125,7 @@ module _ (laws : Laws) (o : Origin) (k : Known Trail) (w : Worker) (ready : IsRe
   adds_found written (Ok (Task task)) h = asking.adds o k w ready y meets z still (Ok task) h.1
   adds_found written (Err e) h = adds_none k.number (history_of y) (history_of z) h
 
-  module _ (k' : Known Trail) (is : k' ≡ left_at (entered k (history_of y)) (history_of z)) where
+  module _ (k' : Known Trail) (is : k' ≡ left_at (pass_inside k (history_of y)) (history_of z)) where
     may_write : (written : Option ℕ) → AreToldOf o k written → (lines : List Shown) → TellsTo y written (Some lines) → history_of z ≡ history_of y → MayWrite o k' written lines
     may_write None there lines tells h = no_lines lines tells
     may_write (Some n) there lines tells h = next laws o k w ready n there y meets k' z (ap (λ (x : Known Trail). x.seen) is) lines tells h

@@ -6,7 +6,7 @@ use Rattle.wave_base.specs.declared.memory.OutOfMemory.{OutOfMemory}
 use Rattle.wave_base.specs.declared.numbers.Worker.{Worker}
 use Rattle.kept_lock.specs.declared.view.Known.{Known}
 use Rattle.kept_lock.specs.History.{Adds, entries_of}
-use Rattle.kept_lock.specs.Knowing.{entered, left_at}
+use Rattle.kept_lock.specs.Knowing.{pass_inside, left_at}
 use Rattle.kept_lock.proofs.Entries.{starts_whole}
 use Rattle.kept_lock.proofs.Unchanged.{adds_twice, left_twice}
 use Rattle.plan_actors.specs.Plans.{Plan}
@@ -33,7 +33,7 @@ use Rattle.host_workers.proofs.Writing.{still_committed}
 
 -- the pass, were it to leave behind what it gave back
 abbrev pub at_given : Known Trail → Board → Board → Known Trail
-at_given k y given = left_at (entered k (history_of y)) (history_of given)
+at_given k y given = left_at (pass_inside k (history_of y)) (history_of given)
 
 -- what holds there: it is a pass that finds the board, and has nothing out
 pub record Between (o : Origin) (k : Known Trail) (w : Worker) (y given : Board) : Type 0 where
@@ -132,16 +132,16 @@ module _ (stay : LeasesStay) (o : Origin) (k : Known Trail) (w : Worker) (y : Bo
         turned_adds = subst (λ ts. Adds owner_of k.number (history_of y) ts) (sym (noted_history t.left z t.noted))
             (adds_twice owner_of k.number (history_of y) (history_of t.given) (history_of t.left) (b.more, b.history, b.own) adds_later)
 
-        turned : (k' : Known Trail) → k' ≡ left_at (entered k (history_of y)) (history_of z) → GoesOn k k' × Offered o k' w written r
+        turned : (k' : Known Trail) → k' ≡ left_at (pass_inside k (history_of y)) (history_of z) → GoesOn k k' × Offered o k' w written r
         turned k' is =
             let late = adds_later in
-            let again : k' ≡ left_at (entered mid (history_of t.given)) (history_of t.left) =
-            is ∙ ap (λ h. left_at (entered k (history_of y)) h) (noted_history t.left z t.noted) ∙ left_twice k (history_of y) (history_of t.given) (history_of t.left) b.more late.0 b.history late.1 in
+            let again : k' ≡ left_at (pass_inside mid (history_of t.given)) (history_of t.left) =
+            is ∙ ap (λ h. left_at (pass_inside k (history_of y)) h) (noted_history t.left z t.noted) ∙ left_twice k (history_of y) (history_of t.given) (history_of t.left) b.more late.0 b.history late.1 in
             let x = offering.offered laws o mid w b.ready t.given b.finds t.left t.stands k' again written (told_there written there mid b.on) r t.found in
             (goes_on k mid k' b.on x.0, x.1)
 
       module _ (t : TurnedAway y z r) where
-        away : (k' : Known Trail) → k' ≡ left_at (entered k (history_of y)) (history_of z) → GoesOn k k' × Offered o k' w written r
+        away : (k' : Known Trail) → k' ≡ left_at (pass_inside k (history_of y)) (history_of z) → GoesOn k k' × Offered o k' w written r
         away k' is =
             let x = left_same k k' y z is t.same meets.agrees.0 in
             let c = calm packet brings in (
@@ -157,6 +157,6 @@ module _ (stay : LeasesStay) (o : Origin) (k : Known Trail) (w : Worker) (y : Bo
       adds_turned (inl t) = turned_adds t
       adds_turned (inr t) = adds_none k.number (history_of y) (history_of z) t.same
 
-      pub offered : HasTurned y w packet written z r → (k' : Known Trail) → k' ≡ left_at (entered k (history_of y)) (history_of z) → GoesOn k k' × Offered o k' w written r
+      pub offered : HasTurned y w packet written z r → (k' : Known Trail) → k' ≡ left_at (pass_inside k (history_of y)) (history_of z) → GoesOn k k' × Offered o k' w written r
       offered (inl t) k' is = turned t k' is
       offered (inr t) k' is = away t k' is

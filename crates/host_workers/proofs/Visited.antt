@@ -4,7 +4,7 @@ use Rattle.wave_base.specs.declared.memory.OutOfMemory.{OutOfMemory}
 use Rattle.wave_base.specs.declared.numbers.Worker.{Worker}
 use Rattle.kept_lock.specs.declared.view.Known.{Known}
 use Rattle.kept_lock.specs.History.{Adds}
-use Rattle.kept_lock.specs.Knowing.{entered, left_at}
+use Rattle.kept_lock.specs.Knowing.{pass_inside, left_at}
 use Rattle.kept_lock.specs.Visits.{Meets}
 use Rattle.wave_board.specs.declared.board.Board.{Board}
 use Rattle.wave_board.specs.declared.origin.Origin.{Origin}
@@ -45,7 +45,7 @@ module _ (o : Origin) (k : Known Trail) (w : Worker) (y y' : Board) (shows : y' 
       pub keeps_turned : StandsFor z o × Adds owner_of k.number (history_of y) (history_of z)
       keeps_turned = (turning.stands_turned stay o k w y finds packet brings written there laws z r turned, turning.adds_turned stay o k w y finds packet brings written there laws z r turned)
 
-      pub offered : (k' : Known Trail) → k' ≡ left_at (entered k (history_of y)) (history_of z) → GoesOn k k' × Offered o k' w written r
+      pub offered : (k' : Known Trail) → k' ≡ left_at (pass_inside k (history_of y)) (history_of z) → GoesOn k k' × Offered o k' w written r
       offered k' is = turning.offered stay o k w y finds packet brings written there laws z r turned k' is
 
   module _ (calm : IsCalm o k w) (why : StopCause) (z z' : Board) (leaves : z' ≡ z) (met : HasStopped y' w why z') where
@@ -55,5 +55,5 @@ module _ (o : Origin) (k : Known Trail) (w : Worker) (y y' : Board) (shows : y' 
     pub keeps_stopped : StandsFor z o × Adds owner_of k.number (history_of y) (history_of z)
     keeps_stopped = (giving.stands_stopped o k w y finds calm why z stopped, giving.adds_stopped o k w y finds calm why z stopped)
 
-    pub halts : (k' : Known Trail) → k' ≡ left_at (entered k (history_of y)) (history_of z) → giving.Stopped o k w y finds calm why z stopped k'
+    pub halts : (k' : Known Trail) → k' ≡ left_at (pass_inside k (history_of y)) (history_of z) → giving.Stopped o k w y finds calm why z stopped k'
     halts k' is = giving.halts o k w y finds calm why z stopped k' is

@@ -4,7 +4,7 @@ use Rattle.std.specs.Prelude.{All}
 use Rattle.std.proofs.lemmas.List.Elements.{All-nil, All-cons}
 use Rattle.kept_lock.specs.declared.view.Known.{Known}
 use Rattle.kept_lock.specs.History.{Adds, StartsWith, entries_of, later_than}
-use Rattle.kept_lock.specs.Knowing.{Agrees, entered, left_at}
+use Rattle.kept_lock.specs.Knowing.{Agrees, pass_inside, left_at}
 use Rattle.kept_lock.proofs.Entries.{grown_own, later_than-append, starts_longer}
 use Rattle.wave_board.specs.declared.board.Board.{Board}
 use Rattle.wave_board.specs.declared.trail.Trail.{Trail}
@@ -24,7 +24,7 @@ pub record Left (k k' : Known Trail) (z : Board) (more : List Trail) : Type 0 wh
   pub made : k'.made ≡ k.made ++ more
   pub on : GoesOn k k'
 
-pub left : (k k' : Known Trail) (y z : Board) (more : List Trail) → k' ≡ left_at (entered k (history_of y)) (history_of z) → history_of z ≡ history_of y ++ more → StartsWith (history_of y) k.seen
+pub left : (k k' : Known Trail) (y z : Board) (more : List Trail) → k' ≡ left_at (pass_inside k (history_of y)) (history_of z) → history_of z ≡ history_of y ++ more → StartsWith (history_of y) k.seen
     → Left k k' z more
 left k k' y z more e h s =
     let seen : k'.seen ≡ history_of z = ap (λ (x : Known Trail). x.seen) e in
@@ -37,7 +37,7 @@ left k k' y z more e h s =
     }
 
 -- nothing was added
-pub left_same : (k k' : Known Trail) (y z : Board) → k' ≡ left_at (entered k (history_of y)) (history_of z) → history_of z ≡ history_of y → StartsWith (history_of y) k.seen → Left k k' z []
+pub left_same : (k k' : Known Trail) (y z : Board) → k' ≡ left_at (pass_inside k (history_of y)) (history_of z) → history_of z ≡ history_of y → StartsWith (history_of y) k.seen → Left k k' z []
 left_same k k' y z e h s = left k k' y z [] e (h ∙ sym (append-nil (history_of y))) s
 
 pub made_same : (k k' : Known Trail) (z : Board) → Left k k' z [] → k'.made ≡ k.made

@@ -5,7 +5,7 @@ use Rattle.std.proofs.lemmas.List.Elements.{All-nil, All-cons, All-head, All-tai
 use Rattle.kept_lock.specs.declared.view.Known.{Known}
 use Rattle.kept_lock.specs.declared.view.Account.{Account}
 use Rattle.kept_lock.specs.History.{entries_of}
-use Rattle.kept_lock.specs.Knowing.{Accounts, account_of, joined}
+use Rattle.kept_lock.specs.Knowing.{Accounts, account_of, joined_pass}
 
 All-append_parts : {X : Type 0} → (P : X → Type 0) (xs ys : List X) → All P (xs ++ ys) → All P xs × All P ys
 All-append_parts P [] ys h = (All-nil P, h)
@@ -17,7 +17,7 @@ pub record JoinedAccounts {E : Type 0} (owner : E → ℕ) (pass other : Known E
   pub theirs : Accounts owner other history
   pub own : Accounts owner pass history
 
-pub joined_accounts : {E : Type 0} → (owner : E → ℕ) (pass other : Known E) (history : List E) → Accounts owner (joined pass other) history → JoinedAccounts owner pass other history
+pub joined_accounts : {E : Type 0} → (owner : E → ℕ) (pass other : Known E) (history : List E) → Accounts owner (joined_pass pass other) history → JoinedAccounts owner pass other history
 joined_accounts {E} owner pass other history h =
     let P : Account E → Type 0 = λ a. entries_of owner a.number history ≡ a.made in
     let parts = All-append_parts P other.accounts pass.accounts (All-tail P (account_of other) (other.accounts ++ pass.accounts) h) in

@@ -2,7 +2,7 @@
 use Rattle.std.proofs.Common.{◌≡◌, ℕ, List, [], ◌∷◌, refl}
 use Rattle.kept_lock.specs.declared.view.Known.{Known}
 use Rattle.kept_lock.specs.History.{entries_of, later_than, longer_history}
-use Rattle.kept_lock.specs.Knowing.{first, entered, left_at, counted_on, next_pass, joined}
+use Rattle.kept_lock.specs.Knowing.{first, pass_inside, left_at, counted_on, next_pass, joined_pass}
 
 -- an entry is its owner's number and a note
 abbrev Note : Type 0
@@ -43,7 +43,7 @@ the_next_number = refl
 abbrev met : List Note
 met = (1, 8) ∷ []
 
-leaves_with_its_own : left_at (entered first met) ((1, 8) ∷ (0, 9) ∷ []) ≡ record { number = 0; seen = (1, 8) ∷ (0, 9) ∷ []; made = (0, 9) ∷ []; passes = 1; accounts = [] }
+leaves_with_its_own : left_at (pass_inside first met) ((1, 8) ∷ (0, 9) ∷ []) ≡ record { number = 0; seen = (1, 8) ∷ (0, 9) ∷ []; made = (0, 9) ∷ []; passes = 1; accounts = [] }
 leaves_with_its_own = refl
 
 -- a pass that has seen less and made one entry is joined to it
@@ -53,8 +53,8 @@ other = record { number = 1; seen = met; made = met; passes = 0; accounts = [] }
 abbrev one : Known Note
 one = record { number = 0; seen = (1, 8) ∷ (0, 9) ∷ []; made = (0, 9) ∷ []; passes = 2; accounts = [] }
 
-keeps_number_and_entries : joined one other ≡ record one { accounts = record { number = 1; made = met } ∷ [] }
+keeps_number_and_entries : joined_pass one other ≡ record one { accounts = record { number = 1; made = met } ∷ [] }
 keeps_number_and_entries = refl
 
-takes_the_longer_history : (joined other one).seen ≡ (1, 8) ∷ (0, 9) ∷ []
+takes_the_longer_history : (joined_pass other one).seen ≡ (1, 8) ∷ (0, 9) ∷ []
 takes_the_longer_history = refl

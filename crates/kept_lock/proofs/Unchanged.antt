@@ -5,7 +5,7 @@ use Rattle.std.proofs.Math.Seq.{drop-length}
 use Rattle.std.proofs.lemmas.List.Elements.{All-append}
 use Rattle.kept_lock.specs.declared.view.Known.{Known}
 use Rattle.kept_lock.specs.History.{Adds, later_than}
-use Rattle.kept_lock.specs.Knowing.{entered, left_at}
+use Rattle.kept_lock.specs.Knowing.{pass_inside, left_at}
 use Rattle.kept_lock.proofs.Entries.{later_than-append}
 
 -- what a clause says of the value of a guard, said of that value
@@ -13,7 +13,7 @@ pub at_value : {V : Type 0} → (P : V → Type 0) (o : Option V) (y : V) → o 
 at_value P o y is h = subst (λ t. IfSome t P) is h
 
 -- a leave at the history of its entry leaves the pass as it was inside
-pub left_as_entered : {E : Type 0} → (pass : Known E) (history : List E) → left_at (entered pass history) history ≡ entered pass history
+pub left_as_entered : {E : Type 0} → (pass : Known E) (history : List E) → left_at (pass_inside pass history) history ≡ pass_inside pass history
 left_as_entered {E} pass history =
     ap (λ (l : List E). record pass { seen = history; made = pass.made ++ l }) (drop-length history)
     ∙ ap (λ (l : List E). record pass { seen = history; made = l }) (append-nil pass.made)
@@ -21,7 +21,7 @@ left_as_entered {E} pass history =
 module _ {E : Type 0} where
   -- two leaves in a row are one
   pub left_twice : (pass : Known E) (before mid after more rest : List E) → mid ≡ before ++ more → after ≡ mid ++ rest
-      → left_at (entered pass before) after ≡ left_at (entered (left_at (entered pass before) mid) mid) after
+      → left_at (pass_inside pass before) after ≡ left_at (pass_inside (left_at (pass_inside pass before) mid) mid) after
   left_twice pass before mid after more rest first second =
       let whole : after ≡ before ++ (more ++ rest) = second ∙ ap (λ l. l ++ rest) first ∙ append_assoc before more rest in
       let all : later_than before after ≡ more ++ rest = ap (later_than before) whole ∙ later_than-append before (more ++ rest) in

@@ -18,8 +18,8 @@ module _ {E : Type 0} where
   first = record { number = 0; seen = []; made = []; passes = 1; accounts = [] }
 
   -- the pass inside, at this history
-  abbrev pub entered : Known E → List E → Known E
-  entered pass history = record pass { seen = history }
+  abbrev pub pass_inside : Known E → List E → Known E
+  pass_inside pass history = record pass { seen = history }
 
   -- the pass after a leave at this history, of which it made what it had not seen at its entry
   abbrev pub left_at : Known E → List E → Known E
@@ -42,5 +42,5 @@ module _ {E : Type 0} where
   with_accounts pass other = record pass { accounts = account_of other ∷ other.accounts ++ pass.accounts }
 
   -- the pass, once the other is joined to it
-  abbrev pub joined : Known E → Known E → Known E
-  joined pass other = record (with_accounts pass other) { seen = longer_history pass.seen other.seen }
+  abbrev pub joined_pass : Known E → Known E → Known E
+  joined_pass pass other = record (with_accounts pass other) { seen = longer_history pass.seen other.seen }

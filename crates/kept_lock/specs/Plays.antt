@@ -5,12 +5,12 @@ use Rattle.kept_lock.specs.declared.view.View.{View}
 use Rattle.kept_lock.specs.declared.view.Place.{Place}
 use Rattle.kept_lock.specs.declared.view.Place.TheVariants.{Outside, Inside, Closing}
 use Rattle.kept_lock.specs.History.{StartsWith, longer_history}
-use Rattle.kept_lock.specs.Knowing.{Agrees, Accounts, entered, left_at, counted_on, next_pass, with_accounts}
+use Rattle.kept_lock.specs.Knowing.{Agrees, Accounts, pass_inside, left_at, counted_on, next_pass, with_accounts}
 
 module _ {N E : Type 0} where
   -- inside, or closing, at this history
   abbrev pub placed_at : View N E → Place → List E → View N E
-  placed_at v place history = record { name = v.name; place = place; told = []; known = entered v.known history }
+  placed_at v place history = record { name = v.name; place = place; told = []; known = pass_inside v.known history }
 
   -- outside again, at this history
   abbrev pub outside_at : View N E → List E → View N E
@@ -29,7 +29,7 @@ module _ {N E : Type 0} where
 
   -- the look after a join: the pass has seen the longer of the two histories
   abbrev pub heard : View N E → View N E
-  heard v = record { name = v.name; place = v.place; told = []; known = entered v.known (longer_history v.known.seen v.told) }
+  heard v = record { name = v.name; place = v.place; told = []; known = pass_inside v.known (longer_history v.known.seen v.told) }
 
 -- the value stands for the name, where there is one
 abbrev pub stands_for : {V N : Type 0} → (V → N → Type 0) → V → Option N → Type 0

@@ -1,7 +1,7 @@
 // Into the lock and out of it.
 ghost use Rattle.std.specs.Prelude.{◌≡◌, Some, None, IfSome};
 ghost use Rattle.kept_lock.specs.History.{Adds};
-ghost use Rattle.kept_lock.specs.Knowing.{Agrees, Accounts, entered, left_at};
+ghost use Rattle.kept_lock.specs.Knowing.{Agrees, Accounts, pass_inside, left_at};
 ghost use Rattle.kept_lock.specs.Plays.{Won, placed_at};
 ghost use Rattle.kept_lock.specs.Seats.{IsPass, IsIn};
 ghost use Rattle.kept_lock.specs.Locks.{name_of, known, value_of, IsPassOf, IsInside};
@@ -28,7 +28,7 @@ impl<V: Kept> KeptLock<V> {
         ensures stands { IfSome (value_in result) (λ y. V.stands y (name_of self.now)) }
         ensures agrees { IfSome (value_in result) (λ y. Agrees V.owner (known pass.old) (V.history y)) }
         ensures accounts { IfSome (value_in result) (λ y. Accounts V.owner (known pass.old) (V.history y)) }
-        ensures entered { IfSome (value_in result) (λ y. known (pass_in result) ≡ entered (known pass.old) (V.history y)) }
+        ensures entered { IfSome (value_in result) (λ y. known (pass_in result) ≡ pass_inside (known pass.old) (V.history y)) }
     {
         let value = self.take(rt, &mut pass.seat);
         let before = pass.out.replace(value);

@@ -1,7 +1,7 @@
 // A look at the value: an entry and a leave that adds nothing, in one call.
 ghost use Rattle.std.specs.Prelude.{◌≡◌};
 ghost use Rattle.std.specs.Fn.{FnOnceTakesAt, FnOnceReturnsAt};
-ghost use Rattle.kept_lock.specs.Knowing.{entered};
+ghost use Rattle.kept_lock.specs.Knowing.{pass_inside};
 ghost use Rattle.kept_lock.specs.Locks.{name_of, known, IsPassOf};
 ghost use Rattle.kept_lock.specs.Visits.{Meets};
 
@@ -18,7 +18,7 @@ impl<V: Kept> KeptLock<V> {
         ensures pass { IsPassOf self.now pass.new }
         ensures seen { (y : V) × Meets V.history V.owner V.stands (name_of self.now) (known pass.old) y
             × FnOnceReturnsAt F.FnOnce view y result
-            × (known pass.new ≡ entered (known pass.old) (V.history y)) }
+            × (known pass.new ≡ pass_inside (known pass.old) (V.history y)) }
     {
         let guard = self.enter(rt, pass);
         let result = view(guard.get());

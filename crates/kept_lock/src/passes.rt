@@ -1,7 +1,7 @@
 // Passes are split and joined.
 ghost use Rattle.std.specs.Prelude.{◌≡◌, ◌≢◌, ◌<◌, Some};
 ghost use Rattle.kept_lock.specs.History.{StartsWith};
-ghost use Rattle.kept_lock.specs.Knowing.{counted_on, next_pass, joined};
+ghost use Rattle.kept_lock.specs.Knowing.{counted_on, next_pass, joined_pass};
 ghost use Rattle.kept_lock.specs.Plays.{Hears};
 ghost use Rattle.kept_lock.specs.Locks.{name_of, known, IsPassOf};
 ghost use Rattle.kept_lock.specs.declared.view.Place.TheVariants.{Outside};
@@ -40,7 +40,7 @@ impl<V: Kept> KeptLock<V> {
         requires other { IsPassOf self.now other }
         requires later { (known other).number ≢ 0 }
         ensures pass { IsPassOf self.now result }
-        ensures joined { known result ≡ joined (known into) (known other) }
+        ensures joined { known result ≡ joined_pass (known into) (known other) }
         ensures this { StartsWith (known result).seen (known into).seen }
         ensures that { StartsWith (known result).seen (known other).seen }
     {

@@ -2,7 +2,7 @@
 ghost use Rattle.std.specs.Prelude.{◌≡◌};
 ghost use Rattle.std.specs.Fn.{FnOnceTakesAtMut, FnOnceReturnsAtMut};
 ghost use Rattle.kept_lock.specs.History.{Adds};
-ghost use Rattle.kept_lock.specs.Knowing.{entered, left_at};
+ghost use Rattle.kept_lock.specs.Knowing.{pass_inside, left_at};
 ghost use Rattle.kept_lock.specs.Locks.{name_of, known, IsPassOf};
 ghost use Rattle.kept_lock.specs.Visits.{Meets};
 
@@ -40,7 +40,7 @@ impl<V: Kept> KeptLock<V> {
         ensures pass { IsPassOf self.now pass.new }
         ensures done { (y : V) × (z : V) × Meets V.history V.owner V.stands (name_of self.now) (known pass.old) y
             × FnOnceReturnsAtMut F.FnOnce work y result z
-            × (known pass.new ≡ left_at (entered (known pass.old) (V.history y)) (V.history z)) }
+            × (known pass.new ≡ left_at (pass_inside (known pass.old) (V.history y)) (V.history z)) }
     {
         let left = self.attempt(
             rt,

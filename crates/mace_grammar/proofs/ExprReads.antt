@@ -128,14 +128,14 @@ module _ (edition : Edition) (sound : IsSound edition) where
         refl)
         refl
 
-    pub bracketed : Reads kind m (g.bracketed edition u) (g.bracketed edition u') (r.bracketed_at edition run) (r.if_sign s.LeftBracket) false []
+    pub bracketed : Reads kind m (g.bracketed_expr edition u) (g.bracketed_expr edition u') (r.bracketed_at edition run) (r.if_sign s.LeftBracket) false []
     unfolding r.bracketed_at
     bracketed =
         next_part kind (sign edition sound m s.LeftBracket)
         (λ _. next_part kind expr (λ key. next_part kind (sign edition sound m s.RightBracket) (λ _. reads_pure kind m key) refl) refl)
         refl
 
-    parenthesized : Reads kind (suc m) (g.parenthesized edition u) (g.parenthesized edition u') (r.parenthesized_at edition run) (r.if_sign s.LeftParen) false []
+    parenthesized : Reads kind (suc m) (g.parenthesized_expr edition u) (g.parenthesized_expr edition u') (r.parenthesized_at edition run) (r.if_sign s.LeftParen) false []
     unfolding r.parenthesized_at
     parenthesized =
         inside kind (sign edition sound (suc m) s.LeftParen)
@@ -149,7 +149,7 @@ module _ (edition : Edition) (sound : IsSound edition) where
     call_behind f = g.arguments edition v >>= (λ found. pure (e.Call f.at f.text (exprs_of found)))
 
     abbrev above_index_behind : Name → Name → Part ExprTree
-    above_index_behind c f = g.bracketed edition v >>= (λ key. pure (e.AboveIndex c.at c.text f.text key))
+    above_index_behind c f = g.bracketed_expr edition v >>= (λ key. pure (e.AboveIndex c.at c.text f.text key))
 
     abbrev above_behind : Name → Name → Part ExprTree
     above_behind c f = pure (e.Above c.at c.text f.text)
@@ -167,7 +167,7 @@ module _ (edition : Edition) (sound : IsSound edition) where
     dot_behind c = (g.field edition) >>= (λ f. above_index_behind c f or above_behind c f)
 
     abbrev key_behind : Name → Part ExprTree
-    key_behind x = g.bracketed edition v >>= (λ key. child_behind x key or index_behind x key)
+    key_behind x = g.bracketed_expr edition v >>= (λ key. child_behind x key or index_behind x key)
 
     abbrev named : Part ExprTree
     named = (w.name edition) >>= (λ n. call_behind n or (dot_behind n or (key_behind n or read_behind n)))
@@ -176,23 +176,23 @@ module _ (edition : Edition) (sound : IsSound edition) where
     written = g.read edition v or (g.above edition v or (g.call edition v or (g.index edition v or (g.above_index edition v or (g.child_call edition) v))))
 
     abbrev split_behind : Name → Part ExprTree
-    split_behind n = call_behind n or (((g.field edition >>= above_index_behind n) or (g.field edition >>= above_behind n)) or (((g.bracketed edition v >>= child_behind n) or (g.bracketed edition v >>= index_behind n)) or read_behind n))
+    split_behind n = call_behind n or (((g.field edition >>= above_index_behind n) or (g.field edition >>= above_behind n)) or (((g.bracketed_expr edition v >>= child_behind n) or (g.bracketed_expr edition v >>= index_behind n)) or read_behind n))
 
     abbrev sorted_behind : Name → Part ExprTree
-    sorted_behind n = read_behind n or ((g.field edition >>= above_behind n) or (call_behind n or ((g.bracketed edition v >>= index_behind n) or ((g.field edition >>= above_index_behind n) or (g.bracketed edition v >>= child_behind n)))))
+    sorted_behind n = read_behind n or ((g.field edition >>= above_behind n) or (call_behind n or ((g.bracketed_expr edition v >>= index_behind n) or ((g.field edition >>= above_index_behind n) or (g.bracketed_expr edition v >>= child_behind n)))))
 
     pub same_named : Same named written
     same_named =
         same_trans named (w.name edition >>= sorted_behind) written
         (same_behind (w.name edition) (λ n. call_behind n or (dot_behind n or (key_behind n or read_behind n))) sorted_behind
         (λ n. same_trans (call_behind n or (dot_behind n or (key_behind n or read_behind n))) (split_behind n) (sorted_behind n)
-        (same_or (call_behind n) (call_behind n) (dot_behind n or (key_behind n or read_behind n)) (((g.field edition >>= above_index_behind n) or (g.field edition >>= above_behind n)) or (((g.bracketed edition v >>= child_behind n) or (g.bracketed edition v >>= index_behind n)) or read_behind n))
+        (same_or (call_behind n) (call_behind n) (dot_behind n or (key_behind n or read_behind n)) (((g.field edition >>= above_index_behind n) or (g.field edition >>= above_behind n)) or (((g.bracketed_expr edition v >>= child_behind n) or (g.bracketed_expr edition v >>= index_behind n)) or read_behind n))
         (same_refl (call_behind n))
-        (same_or (dot_behind n) ((g.field edition >>= above_index_behind n) or (g.field edition >>= above_behind n)) (key_behind n or read_behind n) (((g.bracketed edition v >>= child_behind n) or (g.bracketed edition v >>= index_behind n)) or read_behind n)
+        (same_or (dot_behind n) ((g.field edition >>= above_index_behind n) or (g.field edition >>= above_behind n)) (key_behind n or read_behind n) (((g.bracketed_expr edition v >>= child_behind n) or (g.bracketed_expr edition v >>= index_behind n)) or read_behind n)
         (two_fronts (g.field edition) (above_index_behind n) (above_behind n))
-        (same_or (key_behind n) ((g.bracketed edition v >>= child_behind n) or (g.bracketed edition v >>= index_behind n)) (read_behind n) (read_behind n) (two_fronts (g.bracketed edition v) (child_behind n) (index_behind n)) (same_refl (read_behind n)))))
-        (same_six (call_behind n) (g.field edition >>= above_index_behind n) (g.field edition >>= above_behind n) (g.bracketed edition v >>= child_behind n) (g.bracketed edition v >>= index_behind n) (read_behind n))))
-        (six_fronts (w.name edition) read_behind (λ n. (g.field edition) >>= above_behind n) call_behind (λ n. (g.bracketed edition) v >>= index_behind n) (λ n. (g.field edition) >>= above_index_behind n) (λ n. (g.bracketed edition) v >>= child_behind n))
+        (same_or (key_behind n) ((g.bracketed_expr edition v >>= child_behind n) or (g.bracketed_expr edition v >>= index_behind n)) (read_behind n) (read_behind n) (two_fronts (g.bracketed_expr edition v) (child_behind n) (index_behind n)) (same_refl (read_behind n)))))
+        (same_six (call_behind n) (g.field edition >>= above_index_behind n) (g.field edition >>= above_behind n) (g.bracketed_expr edition v >>= child_behind n) (g.bracketed_expr edition v >>= index_behind n) (read_behind n))))
+        (six_fronts (w.name edition) read_behind (λ n. (g.field edition) >>= above_behind n) call_behind (λ n. (g.bracketed_expr edition) v >>= index_behind n) (λ n. (g.field edition) >>= above_index_behind n) (λ n. (g.bracketed_expr edition) v >>= child_behind n))
 
   module _ (m : ℕ) (u u' : Part ExprTree) (run : Reader ExprTree) (U : Reads kind m u u' run EXPR_STARTS false tails) where
     call : (f : Name) → Reads kind m (call_behind u f) (call_behind u' f) (r.call_at edition run f) (r.if_sign s.LeftParen) false []
@@ -240,7 +240,7 @@ module _ (edition : Edition) (sound : IsSound edition) where
         refl)
         refl refl
 
-    signed : Reads kind (suc m) (g.signed edition u) (g.signed edition u') (r.signed_at edition run) UNARY_OPS false tails
+    signed : Reads kind (suc m) (g.signed_expr edition u) (g.signed_expr edition u') (r.signed_at edition run) UNARY_OPS false tails
     unfolding r.signed_at
     signed = wider kind (inside kind (unary_op edition sound (suc m)) (λ o. next_part kind U (λ operand. reads_pure kind m (e.Unary o.0 o.1 operand)) refl) refl) refl refl
 

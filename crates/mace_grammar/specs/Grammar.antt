@@ -3,7 +3,7 @@ pub mod Lists
 pub mod Exprs
 pub mod Stmts
 unfoldable pub use Rattle.mace_grammar.specs.Grammar.Lists.{comma_list, in_parens}
-unfoldable pub use Rattle.mace_grammar.specs.Grammar.Exprs.{binary_of, comparison_of, operand, chain, field, product, sum, comparison, conjunction, expr, arguments, bracketed, parenthesized, read, above, call, index, above_index, child_call, primary, signed, signed_or_primary, unary, any_expr, any_arguments, any_key}
+unfoldable pub use Rattle.mace_grammar.specs.Grammar.Exprs.{binary_of, comparison_of, operand, chain, field, product, sum, comparison, conjunction, expr, arguments, bracketed_expr, parenthesized_expr, read, above, call, index, above_index, child_call, primary, signed_expr, signed_or_primary, unary, any_expr, any_arguments, any_key}
 unfoldable pub use Rattle.mace_grammar.specs.Grammar.Stmts.{target, let_stmt, require_stmt, send_stmt, spawn_stmt, drop_stmt, set_stmt, call_stmt, child_call_stmt, return_stmt, finish_stmt, block, if_stmt, while_stmt, for_stmt, any_stmt, stmt, stmts, any_block}
 use Rattle.std.specs.Prelude.{List, Option}
 use Rattle.wave_base.specs.declared.span.Span.{Span}

@@ -56,10 +56,10 @@ module _ (version : Version) where
     arguments : Live (g.arguments edition u) (g.arguments edition v)
     arguments = in_parens expr
 
-    bracketed : Live (g.bracketed edition u) (g.bracketed edition v)
+    bracketed : Live (g.bracketed_expr edition u) (g.bracketed_expr edition v)
     bracketed = live_then (sign s.LeftBracket) (λ _ _. live_then expr (λ a b. live_then (sign s.RightBracket) (λ _ _. live_pure a b)))
 
-    parenthesized : Live (g.parenthesized edition u) (g.parenthesized edition v)
+    parenthesized : Live (g.parenthesized_expr edition u) (g.parenthesized_expr edition v)
     parenthesized = live_then (sign s.LeftParen) (λ _ _. live_then expr (λ a b. live_then (sign s.RightParen) (λ _ _. live_pure a b)))
 
     read : Live (g.read edition u) (g.read edition v)
@@ -83,14 +83,14 @@ module _ (version : Version) where
     primary : Live (g.primary edition u) (g.primary edition v)
     primary = live_or literal (live_or parenthesized (live_or read (live_or above (live_or call (live_or index (live_or above_index child_call))))))
 
-    signed : Live (g.signed edition u) (g.signed edition v)
+    signed : Live (g.signed_expr edition u) (g.signed_expr edition v)
     signed = live_then unary_op (λ a b. live_then U (λ c d. live_pure (e.Unary a.0 a.1 c) (e.Unary b.0 b.1 d)))
 
     signed_or_primary : Live (g.signed_or_primary edition u) (g.signed_or_primary edition v)
     signed_or_primary = live_or signed primary
 
   some_primary : (u : Part ExprTree) → HasSome (g.signed_or_primary edition u)
-  some_primary u = some_right (g.signed edition u) (g.primary edition u) (some_left w.literal (g.parenthesized edition u or g.read edition u or g.above edition u or g.call edition u or g.index edition u or g.above_index edition u or g.child_call edition u) literal.some)
+  some_primary u = some_right (g.signed_expr edition u) (g.primary edition u) (some_left w.literal (g.parenthesized_expr edition u or g.read edition u or g.above edition u or g.call edition u or g.index edition u or g.above_index edition u or g.child_call edition u) literal.some)
 
   unary : Live (g.unary edition) (g.unary edition)
   unary = live_deep (g.signed_or_primary edition) (λ p q P x. (signed_or_primary p q (record { leads = P; some = x })).leads) some_primary

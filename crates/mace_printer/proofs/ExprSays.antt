@@ -47,10 +47,10 @@ module _ (edition : Edition) where
   list_back (expr_and t ts) = ap (λ l. expr_and t l) (list_back ts)
 
   module _ (u : Part ExprTree) where
-    pub index_says : (t : ExprTree) → Says (g.expr edition u) (bare_expr t) (expr_words t 0) → Says (g.bracketed edition u) (bare_expr t) (index_words t)
+    pub index_says : (t : ExprTree) → Says (g.expr edition u) (bare_expr t) (expr_words t 0) → Says (g.bracketed_expr edition u) (bare_expr t) (index_words t)
     index_says t h = (nowhere, plain_token (word.Sign s.LeftBracket) ∷ [], _, refl, sign_says s.LeftBracket, (bare_expr t, map plain_token (expr_words t 0), _, map-append plain_token (expr_words t 0) (word.Sign s.RightBracket ∷ []), h, (nowhere, plain_token (word.Sign s.RightBracket) ∷ [], [], refl, sign_says s.RightBracket, (refl, refl))))
 
-    parenthesized_says : (t : ExprTree) (ws : List Word) → Says (g.expr edition u) t ws → Says (g.parenthesized edition u) t (in_parens true ws)
+    parenthesized_says : (t : ExprTree) (ws : List Word) → Says (g.expr edition u) t ws → Says (g.parenthesized_expr edition u) t (in_parens true ws)
     parenthesized_says t ws h = (nowhere, plain_token (word.Sign s.LeftParen) ∷ [], _, refl, sign_says s.LeftParen, (t, map plain_token ws, _, map-append plain_token ws (word.Sign s.RightParen ∷ []), h, (nowhere, plain_token (word.Sign s.RightParen) ∷ [], [], refl, sign_says s.RightParen, (refl, refl))))
 
     abbrev more_say : ExprTrees → Type 0

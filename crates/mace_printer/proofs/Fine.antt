@@ -91,10 +91,10 @@ module _ (edition : Edition) where
     arguments_fine : Holds (Each Fine) (g.arguments edition u)
     arguments_fine = in_parens_hold expr_fine
 
-    bracketed_fine : Holds Fine (g.bracketed edition u)
+    bracketed_fine : Holds Fine (g.bracketed_expr edition u)
     bracketed_fine = then_holds (any (w.sign s.LeftBracket)) (λ _ _. then_holds expr_fine (λ t ht. then_holds (any (w.sign s.RightBracket)) (λ _ _. pure_holds Fine t ht)))
 
-    parenthesized_fine : Holds Fine (g.parenthesized edition u)
+    parenthesized_fine : Holds Fine (g.parenthesized_expr edition u)
     parenthesized_fine = then_holds (any (w.sign s.LeftParen)) (λ _ _. then_holds expr_fine (λ t ht. then_holds (any (w.sign s.RightParen)) (λ _ _. pure_holds Fine t ht)))
 
     read_fine : Holds Fine (g.read edition u)
@@ -129,7 +129,7 @@ module _ (edition : Edition) where
     primary_fine : Holds Fine (g.primary edition u)
     primary_fine = or_holds literal_holds (or_holds parenthesized_fine (or_holds read_fine (or_holds above_fine (or_holds call_fine (or_holds index_node_fine (or_holds above_index_fine child_call_fine))))))
 
-    signed_fine : Holds Fine (g.signed edition u)
+    signed_fine : Holds Fine (g.signed_expr edition u)
     signed_fine = then_holds (any w.unary_op) (λ o _. then_holds H (λ t ht. pure_holds Fine (e.Unary o.0 o.1 t) (λ l. (tt, ht 5))))
 
     node_fine : Holds Fine (g.signed_or_primary edition u)

@@ -84,10 +84,10 @@ module _ (edition : Edition) where
     arguments_fit : Holds (Each Fits) (g.arguments edition u)
     arguments_fit = in_parens_hold expr_fits
 
-    bracketed_fits : Holds Fits (g.bracketed edition u)
+    bracketed_fits : Holds Fits (g.bracketed_expr edition u)
     bracketed_fits = then_holds (any (w.sign s.LeftBracket)) (λ _ _. then_holds expr_fits (λ t ht. then_holds (any (w.sign s.RightBracket)) (λ _ _. pure_holds Fits t ht)))
 
-    parenthesized_fits : Holds Fits (g.parenthesized edition u)
+    parenthesized_fits : Holds Fits (g.parenthesized_expr edition u)
     parenthesized_fits = then_holds (any (w.sign s.LeftParen)) (λ _ _. then_holds expr_fits (λ t ht. then_holds (any (w.sign s.RightParen)) (λ _ _. pure_holds Fits t ht)))
 
     read_fits : Holds Fits (g.read edition u)
@@ -111,7 +111,7 @@ module _ (edition : Edition) where
     primary_fits : Holds Fits (g.primary edition u)
     primary_fits = or_holds literal_holds (or_holds parenthesized_fits (or_holds read_fits (or_holds above_fits (or_holds call_fits (or_holds index_fits (or_holds above_index_fits child_call_fits))))))
 
-    signed_fits : Holds Fits (g.signed edition u)
+    signed_fits : Holds Fits (g.signed_expr edition u)
     signed_fits = then_holds (any w.unary_op) (λ o _. then_holds H (λ t ht. pure_holds Fits (e.Unary o.0 o.1 t) ht))
 
     node_fits : Holds Fits (g.signed_or_primary edition u)

@@ -253,7 +253,7 @@ module _ (edition : Edition) where
     pub arguments_least : Least (g.arguments edition u) (λ xs. 2 + length (c.listed_words whole_words xs))
     arguments_least = parens_least (g.expr edition u) whole_words expr_least
 
-    pub bracketed_least : Least (g.bracketed edition u) (λ a. 2 + length (whole_words a))
+    pub bracketed_least : Least (g.bracketed_expr edition u) (λ a. 2 + length (whole_words a))
     bracketed_least a ts h =
         let (x1, f1, b1, e1, k1, r1) = h in
         let (x2, f2, b2, e2, k2, r2) = r1 in
@@ -261,7 +261,7 @@ module _ (edition : Edition) where
         subst (λ a. 2 + length (whole_words a) ≤ length ts) (sym r3.0)
         (omega (arith, closed, length-append {A = Word}, length-append {A = Token}, ap length e1, ap length k1.1, ap length e2, expr_least x2 f2 k2, ap length e3, ap length k3.1, ap length r3.1))
 
-    parenthesized_least : Least (g.parenthesized edition u) (λ a. length (expr_words a 5))
+    parenthesized_least : Least (g.parenthesized_expr edition u) (λ a. length (expr_words a 5))
     parenthesized_least a ts h =
         let (x1, f1, b1, e1, k1, r1) = h in
         let (x2, f2, b2, e2, k2, r2) = r1 in
@@ -313,7 +313,7 @@ module _ (edition : Edition) where
         subst (λ a. length (expr_words a 5) ≤ length ts) (sym r4.0)
         (omega (arith, closed, length-append {A = Word}, length-append {A = Token}, ap length e1, ap length k1.1, ap length e2, bracketed_least x2 f2 k2, ap length e3, field_least x3 f3 k3, ap length e4, arguments_least x4 f4 k4, ap length r4.1, ap length (args_same x4)))
 
-    signed_least : Least (g.signed edition u) (λ a. length (expr_words a 5))
+    signed_least : Least (g.signed_expr edition u) (λ a. length (expr_words a 5))
     signed_least a ts h =
         let (x1, f1, b1, e1, k1, r1) = h in
         let (x2, f2, b2, e2, k2, r2) = r1 in

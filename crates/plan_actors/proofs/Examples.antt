@@ -25,10 +25,10 @@ use Rattle.service_verify.specs.Boxes.{first_box}
 use Rattle.service_verify.specs.Looks.{peeks, is_quiet_function}
 use Rattle.service_verify.specs.Points as points
 use Rattle.service_verify.specs.Points.{judged_function, judged_from, point_after}
-use Rattle.service_verify.specs.Reads.{kept}
+use Rattle.service_verify.specs.Reads.{read_marks}
 use Rattle.service_verify.specs.Rules.{effect_of, levels_above}
 use Rattle.service_verify.specs.Segments.{weight, enough, steps, segment}
-use Rattle.service_verify.specs.Steps.{acted, one_step}
+use Rattle.service_verify.specs.Steps.{act_move, one_step}
 use Rattle.service_verify.proofs.Samples.{class, function, one_int}
 use Rattle.wave_states.specs.Actors.{Actors, Left, Down, Back, Over}
 use Rattle.wave_states.specs.Alone.{run_alone, fold_alone, places_alone, after_segments}
@@ -104,24 +104,24 @@ jobs = Request (call 0 0) ∷ Request (call 1 1) ∷ Move (hall 1) (host 0) ∷ 
 
 -- in the fold: the created call comes before the second batch
 folded : (fold_alone brief begin batches 5).results ≡ results
-unfolding after_segments segment steps enough weight one_step acted first_box takes_of gives_of apply_row operators kept peeks is_quiet_function judged_function judged_from points.visit point_after effect_of levels_above
+unfolding after_segments segment steps enough weight one_step act_move first_box takes_of gives_of apply_row operators read_marks peeks is_quiet_function judged_function judged_from points.visit point_after effect_of levels_above
 folded = refl
 
 folded_jobs : (fold_alone brief begin batches 5).head ≡ record { known = jobs; later = []; done = 5 }
-unfolding after_segments segment steps enough weight one_step acted first_box takes_of gives_of apply_row operators kept peeks is_quiet_function judged_function judged_from points.visit point_after effect_of levels_above
+unfolding after_segments segment steps enough weight one_step act_move first_box takes_of gives_of apply_row operators read_marks peeks is_quiet_function judged_function judged_from points.visit point_after effect_of levels_above
 folded_jobs = refl
 
 folded_paths : (fold_alone brief begin batches 5).entered ≡ ([] ∷ hall 1 ∷ []) ∷ ([] ∷ []) ∷ ([] ∷ hall 1 ∷ []) ∷ ([] ∷ []) ∷ ([] ∷ hall 1 ∷ []) ∷ []
-unfolding after_segments segment steps enough weight one_step acted first_box takes_of gives_of apply_row operators kept peeks is_quiet_function judged_function judged_from points.visit point_after effect_of levels_above
+unfolding after_segments segment steps enough weight one_step act_move first_box takes_of gives_of apply_row operators read_marks peeks is_quiet_function judged_function judged_from points.visit point_after effect_of levels_above
 folded_paths = refl
 
 folded_hosts : shots (places_alone brief begin batches 5) ≡ ([], 1) ∷ (hall 1, 0) ∷ []
-unfolding after_segments segment steps enough weight one_step acted first_box takes_of gives_of apply_row operators kept peeks is_quiet_function judged_function judged_from points.visit point_after effect_of levels_above
+unfolding after_segments segment steps enough weight one_step act_move first_box takes_of gives_of apply_row operators read_marks peeks is_quiet_function judged_function judged_from points.visit point_after effect_of levels_above
 folded_hosts = refl
 
 -- five tickets; two segments down, one at the root, two and one of the moves, and three of the snapshot
 folded_work : work_after brief begin batches 5 ≡ record { tickets = 5; segments = 9; entered = 8; moves = 1 }
-unfolding after_segments segment steps enough weight one_step acted first_box takes_of gives_of apply_row operators kept peeks is_quiet_function judged_function judged_from points.visit point_after effect_of levels_above
+unfolding after_segments segment steps enough weight one_step act_move first_box takes_of gives_of apply_row operators read_marks peeks is_quiet_function judged_function judged_from points.visit point_after effect_of levels_above
 folded_work = refl
 
 -- in the machine, by two workers on two hosts
@@ -132,11 +132,11 @@ abbrev all_results : State Actor Fields EventResult Line → List (Option EventR
 all_results s = (s.cells 8).result ∷ (s.cells 9).result ∷ (s.cells 10).result ∷ (s.cells 11).result ∷ (s.cells 12).result ∷ []
 
 driven_results : option_map all_results driven ≡ Some (map (λ r. Some r) results)
-unfolding machine.step run enabled drive segment steps enough weight one_step acted first_box takes_of gives_of apply_row operators kept peeks is_quiet_function judged_function judged_from points.visit point_after effect_of levels_above
+unfolding machine.step run enabled drive segment steps enough weight one_step act_move first_box takes_of gives_of apply_row operators read_marks peeks is_quiet_function judged_function judged_from points.visit point_after effect_of levels_above
 driven_results = refl
 
 driven_jobs : option_map (λ s. s.head) driven ≡ Some (record { known = jobs; later = []; done = 5 })
-unfolding machine.step run enabled drive segment steps enough weight one_step acted first_box takes_of gives_of apply_row operators kept peeks is_quiet_function judged_function judged_from points.visit point_after effect_of levels_above
+unfolding machine.step run enabled drive segment steps enough weight one_step act_move first_box takes_of gives_of apply_row operators read_marks peeks is_quiet_function judged_function judged_from points.visit point_after effect_of levels_above
 driven_jobs = refl
 
 -- ---- wrong actors
@@ -186,7 +186,7 @@ abbrev endless : List (List Line)
 endless = (Request (call 2 0) ∷ []) ∷ []
 
 no_sixth : next_job (fold_alone brief begin endless 5).head ≡ None
-unfolding after_segments segment steps enough weight one_step acted first_box takes_of gives_of apply_row operators kept peeks is_quiet_function judged_function judged_from points.visit point_after effect_of levels_above
+unfolding after_segments segment steps enough weight one_step act_move first_box takes_of gives_of apply_row operators read_marks peeks is_quiet_function judged_function judged_from points.visit point_after effect_of levels_above
 no_sixth = refl
 
 abbrev young : Line → Line
@@ -197,7 +197,7 @@ abbrev forgetful : Actors Actor Fields EventResult Line
 forgetful = record brief { created = λ r. map young (created_lines r) }
 
 a_sixth : next_job (fold_alone forgetful begin endless 5).head ≡ Some (Request (call 2 0))
-unfolding after_segments segment steps enough weight one_step acted first_box takes_of gives_of apply_row operators kept peeks is_quiet_function judged_function judged_from points.visit point_after effect_of levels_above
+unfolding after_segments segment steps enough weight one_step act_move first_box takes_of gives_of apply_row operators read_marks peeks is_quiet_function judged_function judged_from points.visit point_after effect_of levels_above
 a_sixth = refl
 
 -- Created calls that are left out: a result is missing.
@@ -205,5 +205,5 @@ abbrev barren : Actors Actor Fields EventResult Line
 barren = record brief { created = λ r. [] }
 
 one_missing : length (fold_alone barren begin batches 5).results ≡ 4
-unfolding after_segments segment steps enough weight one_step acted first_box takes_of gives_of apply_row operators kept peeks is_quiet_function judged_function judged_from points.visit point_after effect_of levels_above
+unfolding after_segments segment steps enough weight one_step act_move first_box takes_of gives_of apply_row operators read_marks peeks is_quiet_function judged_function judged_from points.visit point_after effect_of levels_above
 one_missing = refl

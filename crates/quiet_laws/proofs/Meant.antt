@@ -19,7 +19,7 @@ use Rattle.service_code.specs.declared.program.Function.{Function}
 use Rattle.service_code.specs.declared.program.Program.{Program}
 use Rattle.service_verify.specs.Boxes.{Frame, Box}
 use Rattle.service_verify.specs.Looks.{is_quiet}
-use Rattle.service_verify.specs.Steps.{Move, Paused, acted, acts, answer_move, called, entering, has_kinds, int_of, is_held, left, next_with, on_int, on_top, on_truth, put_row, cut_row, runs, step_to, taken_values, ticking, trap_move, truth_of, with_result, with_some}
+use Rattle.service_verify.specs.Steps.{Move, Paused, act_move, acts, answer_move, box_in_call, entering, has_kinds, int_of, is_held, left, next_with, on_int, on_top, on_truth, put_row, cut_row, runs, step_to, taken_values, ticking, trap_move, truth_of, with_result, with_some}
 use Rattle.service_verify.proofs.Samples.{function, market}
 use Rattle.quiet_laws.specs.Harmless.{Leaves, IsHarmless, QuietOnesAreHarmless}
 
@@ -133,7 +133,7 @@ box = record { frames = []; path = []; ticks = 0; held = []; entered = 0; kept =
 
 -- 0 becomes 1, an empty map gets a pair, and one with a pair loses it
 sets : (n : ℕ) → IsHarmless (SetField n) → ⊥
-unfolding acted
+unfolding act_move
 sets n h =
     let e = subst (λ o. Leaves (many n (int 0)) (with_some o (λ old. on_top (int 1 ∷ []) (λ x rest. runs market [] box [] (next_with (frame (int 1 ∷ [])) rest) (slice_set (many n (int 0)) n x)))))
     (many_get n (int 0)) (h market [] at (frame (int 1 ∷ [])) [] box (many n (int 0))) in
@@ -144,7 +144,7 @@ abbrev pair : Value
 pair = v.Map ((pos 1, pos 1) ∷ [])
 
 puts : (n : ℕ) → IsHarmless (PutField n) → ⊥
-unfolding acted apply_row operators
+unfolding act_move apply_row operators
 puts n h =
     let stack : List Value = int 1 ∷ int 1 ∷ [] in
     let fields : List Value = many n (v.Map []) in
@@ -154,7 +154,7 @@ puts n h =
     cc
 
 cuts : (n : ℕ) → IsHarmless (CutField n) → ⊥
-unfolding acted apply_row operators
+unfolding act_move apply_row operators
 cuts n h =
     let stack : List Value = int 1 ∷ [] in
     let fields : List Value = many n pair in
@@ -168,13 +168,13 @@ abbrev callee : Function
 callee = function (codes "m") 1 false [] None [] 0 (Return ∷ [])
 
 calls : (c : Class) (g : ℕ) → IsHarmless (CallDown c g) → ⊥
-unfolding acted
+unfolding act_move
 calls c g h =
     let program : Program = record market { functions = many g callee } in
     let stack : List Value = int 0 ∷ [] in
     subst (λ o. Leaves [] (with_some o (λ callee. with_some (taken_values (length callee.args) [] stack) (λ t.
     on_int t.1 (λ key rest. let q = box.path ++ step_to program [] c.0 key ∷ [] in
-    entering q box (λ b. Paused (record (called program [] b (frame stack) [] rest g true callee t.0) { path = q }) [] (pause.Down (step_to program [] c.0 key)))
+    entering q box (λ b. Paused (record (box_in_call program [] b (frame stack) [] rest g true callee t.0) { path = q }) [] (pause.Down (step_to program [] c.0 key)))
     (trap_move trap.Reach at box []))))))
     (many_get g callee) (h program [] at (frame stack) [] box [])
 
@@ -186,5 +186,5 @@ quiet_ones (CallDown c g) h = absurd (calls c g h)
 quiet_ones _ h = refl
 
 pub exactly : QuietOnesAreHarmless
-unfolding acted
+unfolding act_move
 exactly i = (λ q program levels at f below b fields. harmless fields program levels at f below b i q, quiet_ones i)

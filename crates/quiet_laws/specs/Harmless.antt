@@ -8,7 +8,7 @@ use Rattle.service_code.specs.declared.instr.Instr.{Instr}
 use Rattle.service_code.specs.declared.program.Program.{Program}
 use Rattle.service_verify.specs.Boxes.{Box, Frame}
 use Rattle.service_verify.specs.Looks.{is_quiet}
-use Rattle.service_verify.specs.Steps.{Move, Runs, Paused, Lost, acted}
+use Rattle.service_verify.specs.Steps.{Move, Runs, Paused, Lost, act_move}
 
 -- it leaves these fields, and does not pause to call into a child
 abbrev pub Leaves : List Value → Move → Type 0
@@ -19,7 +19,7 @@ Leaves fields Lost = Unit {0}
 
 -- in each program, on top of any frames, with any fields
 abbrev pub IsHarmless : Instr → Type 0
-IsHarmless i = (program : Program) (levels : List Level) (at : Span) (f : Frame) (below : List Frame) (b : Box) (fields : List Value) → Leaves fields (acted program levels i at f below b fields)
+IsHarmless i = (program : Program) (levels : List Level) (at : Span) (f : Frame) (below : List Frame) (b : Box) (fields : List Value) → Leaves fields (act_move program levels i at f below b fields)
 
 -- Quiet ones are harmless. But for what a call may do later, an instruction is quiet exactly where it is harmless.
 abbrev pub QuietOnesAreHarmless : Type 0

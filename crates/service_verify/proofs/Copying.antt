@@ -18,7 +18,7 @@ use Rattle.service_verify.specs.Boxes.{Box}
 use Rattle.service_verify.specs.Copies.{Trip, trip_with, trip_if, next_trip, trip_after, first_trip}
 use Rattle.service_verify.specs.Fit.{IsFit}
 use Rattle.service_verify.specs.Points.{IsVerified}
-use Rattle.service_verify.specs.Reads.{kept}
+use Rattle.service_verify.specs.Reads.{read_marks}
 use Rattle.service_verify.specs.Segments.{segment, left_by}
 use Rattle.service_verify.specs.Standing.{HasFields, HasLevels, Agree, HasTree, LeavesAt}
 use Rattle.service_verify.specs.Steps.{Paused, is_held}
@@ -33,14 +33,14 @@ module _ (program : Program) where
   kept_other : (tree : Tree Fields) (q : Path) (x : Fields) (r : Path) → length r < length q → kept_of program (put tree q x) r ≡ kept_of program tree r
   kept_other tree q x r lt = unchanged (path_eq q r) refl
     where
-      unchanged : (b : Bool) → path_eq q r ≡ b → kept_level (kept program (class_of r)) (if b then x else tree.fields r) ≡ kept_of program tree r
+      unchanged : (b : Bool) → path_eq q r ≡ b → kept_level (read_marks program (class_of r)) (if b then x else tree.fields r) ≡ kept_of program tree r
       unchanged true e = absurd (let same = ap length ((path_eq_decides q r).0 e) in omega (arith, lt, same))
       unchanged false e = refl
 
-  kept_here : (tree : Tree Fields) (p : Path) (x : Fields) → kept_of program (put tree p x) p ≡ kept_level (kept program (class_of p)) x
+  kept_here : (tree : Tree Fields) (p : Path) (x : Fields) → kept_of program (put tree p x) p ≡ kept_level (read_marks program (class_of p)) x
   kept_here tree p x = go (path_eq p p) ((path_eq_decides p p).1 refl)
     where
-      go : (b : Bool) → b ≡ true → kept_level (kept program (class_of p)) (if b then x else tree.fields p) ≡ kept_level (kept program (class_of p)) x
+      go : (b : Bool) → b ≡ true → kept_level (read_marks program (class_of p)) (if b then x else tree.fields p) ≡ kept_level (read_marks program (class_of p)) x
       go true e = refl
       go false e = cc
 
@@ -49,7 +49,7 @@ module _ (program : Program) where
   above_put tree q x p le = levels_same (kept_of program (put tree q x)) (kept_of program tree) (length q) (λ r lt. kept_other tree q x r lt) [] p (omega (arith, le))
 
   -- after a change at a path: above a child of it, and above its parent
-  above_child : (tree : Tree Fields) (p : Path) (x : Fields) (s : Step) → kept_above program (put tree p x) (p ++ s ∷ []) ≡ kept_above program tree p ++ kept_level (kept program (class_of p)) x ∷ []
+  above_child : (tree : Tree Fields) (p : Path) (x : Fields) (s : Step) → kept_above program (put tree p x) (p ++ s ∷ []) ≡ kept_above program tree p ++ kept_level (read_marks program (class_of p)) x ∷ []
   unfolding kept_above
   above_child tree p x s =
       levels_child (kept_of program (put tree p x)) [] p s
@@ -103,7 +103,7 @@ module _ (program : Program) (fit : IsFit program) (verified : IsVerified progra
       a = pauses_as program fit verified p n whole t.tour.box (t.tour.tree.fields t.tour.box.path) w.stands.box whole_has has
 
       marks : List Bool
-      marks = kept program (class_of t.tour.box.path)
+      marks = read_marks program (class_of t.tour.box.path)
 
       is_next : next_trip program t ≡ trip_with t (left_by marks above (Paused a.box a.left a.why))
       is_next =

@@ -23,10 +23,10 @@ use Rattle.service_verify.specs.declared.point.Point.{Point}
 use Rattle.service_verify.specs.Boxes.{first_box}
 use Rattle.service_verify.specs.Looks.{is_quiet_function, peeks, looks_from}
 use Rattle.service_verify.specs.Points.{Table, Fault, point_after, visit, judged_from, judged_function}
-use Rattle.service_verify.specs.Reads.{kept}
+use Rattle.service_verify.specs.Reads.{read_marks}
 use Rattle.service_verify.specs.Rules.{levels_above, effect_of}
 use Rattle.service_verify.specs.Segments.{weight, enough, steps, segment}
-use Rattle.service_verify.specs.Steps.{acted, one_step}
+use Rattle.service_verify.specs.Steps.{act_move, one_step}
 use Rattle.service_verify.specs.Tours.{Tour, tour_after, code_tour}
 use Rattle.service_verify.specs.inner.Surveys.{looks_by}
 use Rattle.service_verify.proofs.Samples.{class, function, tick, market}
@@ -73,7 +73,7 @@ abbrev int : ℕ → Value
 int n = v.Int (pos n)
 
 tick_once : (code_tour tick (call 0 []) (first_tree tick.shape)).result ≡ Some (record { outcome = Replied (int 1); messages = []; created = [] })
-unfolding code_tour tour_after segment steps enough weight one_step acted first_box takes_of gives_of apply_row operators
+unfolding code_tour tour_after segment steps enough weight one_step act_move first_box takes_of gives_of apply_row operators
 tick_once = refl
 
 abbrev bought : Call → Tree (List Value) → Tour
@@ -101,32 +101,32 @@ abbrev stall : ℕ → Path
 stall n = step 1 1 ∷ step 2 n ∷ []
 
 first_sold : first_buy.result ≡ sold 7 3
-unfolding code_tour tour_after segment steps enough weight one_step acted first_box takes_of gives_of apply_row operators
+unfolding code_tour tour_after segment steps enough weight one_step act_move first_box takes_of gives_of apply_row operators
 first_sold = refl
 
 second_sold : second_buy.result ≡ sold 6 7
-unfolding code_tour tour_after segment steps enough weight one_step acted first_box takes_of gives_of apply_row operators
+unfolding code_tour tour_after segment steps enough weight one_step act_move first_box takes_of gives_of apply_row operators
 second_sold = refl
 
 pair_ends : last_pair.result ≡ Some (record { outcome = Replied (int 11); messages = []; created = [] })
-unfolding code_tour tour_after segment steps enough weight one_step acted first_box takes_of gives_of apply_row operators
+unfolding code_tour tour_after segment steps enough weight one_step act_move first_box takes_of gives_of apply_row operators
 pair_ends = refl
 
 -- each change of place begins a segment
 buy_segments : first_buy.segments ≡ 3
-unfolding code_tour tour_after segment steps enough weight one_step acted first_box takes_of gives_of apply_row operators
+unfolding code_tour tour_after segment steps enough weight one_step act_move first_box takes_of gives_of apply_row operators
 buy_segments = refl
 
 pair_segments : last_pair.segments ≡ 6
-unfolding code_tour tour_after segment steps enough weight one_step acted first_box takes_of gives_of apply_row operators
+unfolding code_tour tour_after segment steps enough weight one_step act_move first_box takes_of gives_of apply_row operators
 pair_segments = refl
 
 pair_enters : last_pair.entered ≡ [] ∷ hall ∷ stall 1 ∷ stall 2 ∷ []
-unfolding code_tour tour_after segment steps enough weight one_step acted first_box takes_of gives_of apply_row operators
+unfolding code_tour tour_after segment steps enough weight one_step act_move first_box takes_of gives_of apply_row operators
 pair_enters = refl
 
 last_shots : shots last_pair.tree ≡ ([], int 2 ∷ []) ∷ (hall, int 7 ∷ []) ∷ (stall 1, int 6 ∷ []) ∷ (stall 2, int 5 ∷ []) ∷ []
-unfolding code_tour tour_after segment steps enough weight one_step acted first_box takes_of gives_of apply_row operators
+unfolding code_tour tour_after segment steps enough weight one_step act_move first_box takes_of gives_of apply_row operators
 last_shots = refl
 
 -- all four functions keep the rules
@@ -139,8 +139,8 @@ unfolding judged_function judged_from visit point_after effect_of takes_of gives
 market_keeps = refl
 
 -- of the market the halls' counts alone are read from below
-market_kept : kept market 0 ∷ kept market 1 ∷ kept market 2 ∷ [] ≡ (false ∷ []) ∷ (true ∷ []) ∷ (false ∷ []) ∷ []
-unfolding kept judged_function judged_from visit point_after effect_of takes_of gives_of operators levels_above
+market_kept : read_marks market 0 ∷ read_marks market 1 ∷ read_marks market 2 ∷ [] ≡ (false ∷ []) ∷ (true ∷ []) ∷ (false ∷ []) ∷ []
+unfolding read_marks judged_function judged_from visit point_after effect_of takes_of gives_of operators levels_above
 market_kept = refl
 
 -- a root and a context below it, a method there that sets its field, one that reads it, and events with these codes

@@ -16,7 +16,7 @@ use Rattle.wave_base.specs.Values.{kind_of}
 use Rattle.downgrade_views.specs.Levels.{Level, value_in, field_in, field_at, HasField, keeps, kept_level, whole_level}
 use Rattle.downgrade_views.proofs.Finding.{kept_field, whole_field}
 use Rattle.service_code.specs.declared.program.Program.{Program}
-use Rattle.service_verify.specs.Reads.{kept, is_kept}
+use Rattle.service_verify.specs.Reads.{read_marks, is_kept}
 use Rattle.service_verify.specs.Standing.{HasFields, HasLevels, Agree, HasTree}
 use Rattle.service_verify.specs.Tours.{Fields, fields_from, fields_above}
 use Rattle.service_verify.proofs.Lists.{take_get, take_take, more_get, last_get, map_get}
@@ -91,18 +91,18 @@ module _ (program : Program) where
     each = λ l n kind lt keeps is. ap (option_map kind_of) (whole_get tree p l n lt) ∙ field_kind (take l p) (tree.fields (take l p)) n kind (has (take l p)) is;
   }
 
-  kept_get : (kept : List Bool) (fields : List Value) (n : ℕ) → keeps kept n ≡ true → value_in (kept_level kept fields) n ≡ slice_get fields n
-  kept_get kept fields n e = kept_field kept fields n ∙ ap (λ b. if b then slice_get fields n else None) e
+  kept_get : (marks : List Bool) (fields : List Value) (n : ℕ) → keeps marks n ≡ true → value_in (kept_level marks fields) n ≡ slice_get fields n
+  kept_get marks fields n e = kept_field marks fields n ∙ ap (λ b. if b then slice_get fields n else None) e
 
   -- one level more below, or one less
-  pub level_more : (p : Path) (levels : List Level) (fields : List Value) (s : Step) → HasLevels program p levels → HasFields program.shape p fields → HasLevels program (p ++ s ∷ []) (levels ++ kept_level (kept program (class_of p)) fields ∷ [])
+  pub level_more : (p : Path) (levels : List Level) (fields : List Value) (s : Step) → HasLevels program p levels → HasFields program.shape p fields → HasLevels program (p ++ s ∷ []) (levels ++ kept_level (read_marks program (class_of p)) fields ∷ [])
   level_more p levels fields s h has = record {
     long = length-append levels _ ∙ ap (λ n. n + 1) h.long ∙ sym (length-append p (s ∷ []));
     each = λ l n kind lt. by l n kind (cases_lt l (length p)) (omega (arith, lt, length-append p (s ∷ [])));
   }
     where
       level : Level
-      level = kept_level (kept program (class_of p)) fields
+      level = kept_level (read_marks program (class_of p)) fields
 
       by : (l n : ℕ) (kind : Kind) → l < length p ⊎ length p ≤ l → l ≤ length p → is_kept program (class_of (take l (p ++ s ∷ []))) n ≡ true → slice_get (kinds_of_class program.shape (class_of (take l (p ++ s ∷ [])))) n ≡ Some kind → HasField (levels ++ level ∷ []) l n kind
       by l n kind (inl lt) le keeps is =
@@ -114,7 +114,7 @@ module _ (program : Program) where
           let same : take l (p ++ s ∷ []) ≡ p = ap (λ m. take m (p ++ s ∷ [])) last ∙ take-append_seam p (s ∷ []) in
           ap (λ m. option_map kind_of (field_in (slice_get (levels ++ level ∷ []) m) n)) (last ∙ sym h.long)
           ∙ ap (λ o. option_map kind_of (field_in o n)) (last_get levels level)
-          ∙ ap (option_map kind_of) (kept_get (kept program (class_of p)) fields n (ap (λ q. is_kept program (class_of q) n) (sym same) ∙ keeps))
+          ∙ ap (option_map kind_of) (kept_get (read_marks program (class_of p)) fields n (ap (λ q. is_kept program (class_of q) n) (sym same) ∙ keeps))
           ∙ field_kind p fields n kind has (ap (λ q. slice_get (kinds_of_class program.shape (class_of q)) n) (sym same) ∙ is)
 
   pub level_less : (p : Path) (levels : List Level) → HasLevels program p levels → HasLevels program (parent_of p) (take (length levels - 1) levels)
@@ -129,14 +129,14 @@ module _ (program : Program) where
 
   -- exactly the kept fields of a tree's contexts
   abbrev pub kept_of : Tree Fields → Path → Level
-  kept_of tree q = kept_level (kept program (class_of q)) (tree.fields q)
+  kept_of tree q = kept_level (read_marks program (class_of q)) (tree.fields q)
 
   unfoldable pub kept_above : Tree Fields → Path → List Level
   kept_above tree p = levels_from (λ q. kept_of tree q) [] p
 
   kept_is : (tree : Tree Fields) (p : Path) (l n : ℕ) → l < length p → is_kept program (class_of (take l p)) n ≡ true → field_at (kept_above tree p) l n ≡ slice_get (tree.fields (take l p)) n
   unfolding kept_above
-  kept_is tree p l n lt keeps = ap (λ o. field_in o n) (levels_get (λ q. kept_of tree q) [] p l lt) ∙ kept_get (kept program (class_of (take l p))) (tree.fields (take l p)) n keeps
+  kept_is tree p l n lt keeps = ap (λ o. field_in o n) (levels_get (λ q. kept_of tree q) [] p l lt) ∙ kept_get (read_marks program (class_of (take l p))) (tree.fields (take l p)) n keeps
 
   pub kept_has : (tree : Tree Fields) → HasTree program tree → (p : Path) → HasLevels program p (kept_above tree p)
   unfolding kept_above

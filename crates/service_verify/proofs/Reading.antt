@@ -12,7 +12,7 @@ use Rattle.service_code.specs.declared.program.Function.{Function}
 use Rattle.service_code.specs.declared.program.Program.{Program}
 use Rattle.service_verify.specs.declared.point.Point.{Point}
 use Rattle.service_verify.specs.Points.{Table, points_of, point_in, point_at}
-use Rattle.service_verify.specs.Reads.{Reads, is_number, reads_at, code_reads, functions_read, fields_kept, kept, is_kept}
+use Rattle.service_verify.specs.Reads.{Reads, is_number, reads_at, code_reads, functions_read, fields_kept, read_marks, is_kept}
 use Rattle.service_verify.specs.Rules.{levels_above}
 
 or_left : (a b : Bool) → a ≡ true → (a || b) ≡ true
@@ -145,12 +145,12 @@ module _ (program : Program) (class : ℕ) where
   kept_long first (k ∷ ks) = ap suc (kept_long (suc first) ks)
 
   -- one truth value per field
-  pub kept_fields : length (kept program class) ≡ length (kinds_of_class program.shape class)
-  unfolding kept
+  pub kept_fields : length (read_marks program class) ≡ length (kinds_of_class program.shape class)
+  unfolding read_marks
   kept_fields = kept_long 0 (kinds_of_class program.shape class)
 
-  pub kept_there : (n : ℕ) → n < length (kinds_of_class program.shape class) → slice_get (kept program class) n ≡ Some (functions_read program class n 0 program.functions)
-  unfolding kept
+  pub kept_there : (n : ℕ) → n < length (kinds_of_class program.shape class) → slice_get (read_marks program class) n ≡ Some (functions_read program class n 0 program.functions)
+  unfolding read_marks
   kept_there n lt = let z : 0 + n ≡ n = omega arith in kept_at 0 (kinds_of_class program.shape class) n lt ∙ ap (λ m. Some (functions_read program class m 0 program.functions)) z
 
   -- a field that is read from below is kept
@@ -158,7 +158,7 @@ module _ (program : Program) (class : ℕ) where
   read_is_kept field lt r = ap (λ o. unwrap_or o false) (kept_there field lt) ∙ of_reads field r
 
   -- and no other one
-  pub kept_is_read : (field : ℕ) → slice_get (kept program class) field ≡ Some true → field < length (kinds_of_class program.shape class) → Reads program class field
+  pub kept_is_read : (field : ℕ) → slice_get (read_marks program class) field ≡ Some true → field < length (kinds_of_class program.shape class) → Reads program class field
   kept_is_read field e lt = reads_of field (some_true _ (sym (kept_there field lt) ∙ e))
     where
       some_true : (b : Bool) → Some b ≡ Some true → b ≡ true

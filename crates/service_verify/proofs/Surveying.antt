@@ -25,7 +25,7 @@ use Rattle.service_verify.specs.Faults.{Names, IsFirst}
 use Rattle.service_verify.specs.inner.Surveys.{says, mark_of, unmarked_fields, IsMarked, IsMarkedSoFar, looks_after, looks_by, Keep, IsSurveyed, HasTables}
 use Rattle.service_verify.specs.Looks.{is_quiet, is_go, after_go, stays_behind, is_quiet_function, only_looks, function_peeks, peeks, looks_from}
 use Rattle.service_verify.specs.Points.{Table, table_in, point_in, judged_function, IsVerified, Breaks}
-use Rattle.service_verify.specs.Reads.{Reads, reads_at, code_reads, functions_read, fields_kept, kept}
+use Rattle.service_verify.specs.Reads.{Reads, reads_at, code_reads, functions_read, fields_kept, read_marks}
 use Rattle.service_verify.specs.Rules.{effect_of, levels_above, gives_only, judged_item}
 use Rattle.service_verify.specs.Steps.{code_of}
 use Rattle.service_verify.proofs.Frames.{acts}
@@ -179,7 +179,7 @@ module _ (program : Program) where
   kept_each class first (k ∷ ks) (suc f) = let s : first + suc f ≡ suc first + f = omega arith in ap (λ m. option_map (λ b. b || functions_read program class m 0 program.functions) (option_map (λ x. false) (slice_get ks f))) s ∙ kept_each class (suc first) ks f
 
   pub first_surveyed : (marks : List (List Bool)) (quiet : List Bool) (looks : List (Option ℕ)) → marks ≡ map unmarked_fields program.shape.classes → quiet ≡ [] → looks ≡ [] → IsSurveyed program 0 marks quiet looks
-  unfolding kept
+  unfolding read_marks
   first_surveyed marks quiet looks is no_quiet no_looks = record {
     classes = ap length is ∙ long program.shape.classes;
     marked = λ c f.
@@ -312,9 +312,9 @@ module _ (program : Program) where
       found_ok rule.Field (slice_get (kinds_of_class program.shape d) f) (λ kind. gives_only kind) a.leads.effect is_found (λ kind is_kind rest.
       slice_get_within (kinds_of_class program.shape c) f kind (ap (λ e. slice_get (kinds_of_class program.shape e) f) (some_same c d (sym r.is_ancestor ∙ is_d)) ∙ is_kind)))
 
-  pub kept_exact : IsVerified program → (c : ℕ) (ks : List Bool) → ks ≡ kept program c → (f : ℕ) → (slice_get ks f ≡ Some true → Reads program c f) × (Reads program c f → slice_get ks f ≡ Some true)
+  pub kept_exact : IsVerified program → (c : ℕ) (ks : List Bool) → ks ≡ read_marks program c → (f : ℕ) → (slice_get ks f ≡ Some true → Reads program c f) × (Reads program c f → slice_get ks f ≡ Some true)
   kept_exact verified c ks is f = (
-    λ e. let at = sym (ap (λ xs. slice_get xs f) is) ∙ e in kept_is_read program c f at (subst (λ n. f < n) (kept_fields program c) (slice_get_within (kept program c) f true at)),
+    λ e. let at = sym (ap (λ xs. slice_get xs f) is) ∙ e in kept_is_read program c f at (subst (λ n. f < n) (kept_fields program c) (slice_get_within (read_marks program c) f true at)),
     λ r. let lt = read_there verified c f r in ap (λ xs. slice_get xs f) is ∙ kept_there program c f lt ∙ ap (λ b. Some b) (of_reads program c f r),
   )
 
@@ -326,9 +326,9 @@ module _ (program : Program) where
     many = h.looks_long ∙ whole;
   }
     where
-      each : (c f : ℕ) → mark_of marks c f ≡ slice_get (kept program c) f
+      each : (c f : ℕ) → mark_of marks c f ≡ slice_get (read_marks program c) f
       each c f = sym (ap (λ fs. option_map (λ b. b || functions_read program c f count fs) (mark_of marks c f)) (drop_all count program.functions (omega (arith, whole))) ∙ no_more (mark_of marks c f)) ∙ h.marked c f
 
-      at_class : (c : ℕ) (o : Option (List Bool)) → slice_get marks c ≡ o → c < length marks → o ≡ Some (kept program c)
+      at_class : (c : ℕ) (o : Option (List Bool)) → slice_get marks c ≡ o → c < length marks → o ≡ Some (read_marks program c)
       at_class c None e lt = absurd (none_within marks c lt e)
-      at_class c (Some ks) e lt = ap (λ x. Some x) (same_at ks (kept program c) (λ f. sym (ap (option_and_then (λ ks. slice_get ks f)) e) ∙ each c f))
+      at_class c (Some ks) e lt = ap (λ x. Some x) (same_at ks (read_marks program c) (λ f. sym (ap (option_and_then (λ ks. slice_get ks f)) e) ∙ each c f))

@@ -53,9 +53,9 @@ module _ (program : Program) (class : ℕ) where
   fields_kept field (k ∷ ks) = functions_read field 0 program.functions ∷ fields_kept (suc field) ks
 
   -- for each field of the class, whether it is read from below
-  unfoldable pub kept : List Bool
-  kept = fields_kept 0 (kinds_of_class program.shape class)
+  unfoldable pub read_marks : List Bool
+  read_marks = fields_kept 0 (kinds_of_class program.shape class)
 
   -- the field is there, and is read from below
   abbrev pub is_kept : ℕ → Bool
-  is_kept field = keeps kept field
+  is_kept field = keeps read_marks field

@@ -6,7 +6,7 @@ ghost use Rattle.service_verify.specs.Fit.{IsSmall};
 ghost use Rattle.service_verify.specs.Links.{AreLinked};
 ghost use Rattle.service_verify.specs.Looks.{peeks, looks_from};
 ghost use Rattle.service_verify.specs.Points.{IsVerified, Breaks};
-ghost use Rattle.service_verify.specs.Reads.{Reads, kept};
+ghost use Rattle.service_verify.specs.Reads.{Reads, read_marks};
 
 use crate::asks::Judge;
 use crate::error::VerifyError;
@@ -54,7 +54,7 @@ impl Verified {
     /// context downwards keeps a copy of these fields alone.
     pub fn kept_fields(&self, class: Class) -> &Seq<bool>
         requires { class.0 < length self.now.shape.classes }
-        ensures kept { result.now ≡ kept self.now class.0 }
+        ensures kept { result.now ≡ read_marks self.now class.0 }
         ensures exact { (field : ℕ) → slice_get result.now field ≡ Some true ↔ Reads self.now class.0 field }
     {
         &self.kept[class.0 as usize]

@@ -146,10 +146,10 @@ module _ (P : Span → Type 0) where
       arguments : Gives (Stands P) (Each IsPlaced) (g.arguments edition u)
       arguments = in_parens (g.expr edition u) expr
 
-      bracketed : Gives (Stands P) IsPlaced (g.bracketed edition u)
+      bracketed : Gives (Stands P) IsPlaced (g.bracketed_expr edition u)
       bracketed = next (any (w.sign s.LeftBracket)) (λ at _. next expr (λ key f. next (any (w.sign s.RightBracket)) (λ to _. whole key f)))
 
-      parenthesized : Gives (Stands P) IsPlaced (g.parenthesized edition u)
+      parenthesized : Gives (Stands P) IsPlaced (g.parenthesized_expr edition u)
       parenthesized = next (any (w.sign s.LeftParen)) (λ at _. next expr (λ inner f. next (any (w.sign s.RightParen)) (λ to _. whole inner f)))
 
       read : Gives (Stands P) IsPlaced (g.read edition u)
@@ -173,7 +173,7 @@ module _ (P : Span → Type 0) where
       primary : Gives (Stands P) IsPlaced (g.primary edition u)
       primary = either literal (either parenthesized (either read (either above (either call (either index (either above_index child_call))))))
 
-      signed : Gives (Stands P) IsPlaced (g.signed edition u)
+      signed : Gives (Stands P) IsPlaced (g.signed_expr edition u)
       signed = next unary_op (λ o p. next U (λ x f. whole (e.Unary o.0 o.1 x) (unary_is o x p f)))
 
       signed_or_primary : Gives (Stands P) IsPlaced (g.signed_or_primary edition u)

@@ -27,7 +27,7 @@ use Rattle.type_rules.specs.declared.meant.Callee.TheVariants as callee
 use Rattle.type_rules.specs.Demands.{Demand, ask, first_wrong}
 use Rattle.type_rules.specs.Known.{class_named, field_named, field_kind, method_named, signature_at, no_signature}
 use Rattle.type_rules.specs.Here.{Here, local_named, of_local, or_else, variable, callee_named, takes, is_earlier, is_child, rows_of}
-use Rattle.type_rules.specs.Exprs.{kind_of, resolve, resolve_all, or_zero, read_tree, binary_tree, call_tree, child_tree, count, above_asks, class_asks, method_asks, child_takes, typed, of_kind, demands, args_demands, demands_as, call_demands, child_demands}
+use Rattle.type_rules.specs.Exprs.{kind_of, resolve, resolve_all, or_zero, read_tree, binary_tree, call_tree, child_tree, count, above_asks, class_asks, method_asks, child_takes, kind_asks, of_kind, demands, args_demands, demands_as, call_demands, child_demands}
 use Rattle.type_rules.proofs.First.{first_wrong_parts}
 use Rattle.type_laws.proofs.Sound.{AllHold, all_hold, none_wrong}
 
@@ -153,22 +153,22 @@ module _ (h : Here) (methods : List Method) where
       expr_fits (e.Above at class name) d = tt
       expr_fits (e.Index at name key) d =
           let a = all_hold (demands h (e.Index at name key)) d in
-          let b = first_wrong_parts (demands h key) (typed h (e.Index at name key)) (none_wrong (demands h key ++ typed h (e.Index at name key)) a.1) in
+          let b = first_wrong_parts (demands h key) (kind_asks h (e.Index at name key)) (none_wrong (demands h key ++ kind_asks h (e.Index at name key)) a.1) in
           (read_fits at (variable h name) (variable_fits name), (expr_fits key b.0, tt))
       expr_fits (e.AboveIndex at class name key) d =
-          let a = first_wrong_parts (above_asks h at class name) (demands h key ++ typed h (e.AboveIndex at class name key)) d in
-          let b = first_wrong_parts (demands h key) (typed h (e.AboveIndex at class name key)) a.1 in
+          let a = first_wrong_parts (above_asks h at class name) (demands h key ++ kind_asks h (e.AboveIndex at class name key)) d in
+          let b = first_wrong_parts (demands h key) (kind_asks h (e.AboveIndex at class name key)) a.1 in
           (tt, (expr_fits key b.0, tt))
       expr_fits (e.Call at name args) d =
-          let a = first_wrong_parts (call_demands h at name args) (typed h (e.Call at name args)) d in
+          let a = first_wrong_parts (call_demands h at name args) (kind_asks h (e.Call at name args)) d in
           call_fits at name args (λ kinds l d. args_fit kinds args l d) a.0
       expr_fits (e.ChildCall at class key name args) d =
-          let a = first_wrong_parts (child_demands h at class key name args) (typed h (e.ChildCall at class key name args)) d in
+          let a = first_wrong_parts (child_demands h at class key name args) (kind_asks h (e.ChildCall at class key name args)) d in
           child_fits at class key name args (λ d. expr_fits key d) (λ kinds l d. args_fit kinds args l d) a.0
-      expr_fits (e.Unary at sign operand) d = (expr_fits operand (first_wrong_parts (demands h operand) (typed h (e.Unary at sign operand)) d).0, tt)
+      expr_fits (e.Unary at sign operand) d = (expr_fits operand (first_wrong_parts (demands h operand) (kind_asks h (e.Unary at sign operand)) d).0, tt)
       expr_fits (e.Binary at sign left right) d =
-          let a = first_wrong_parts (demands h left) (demands h right ++ typed h (e.Binary at sign left right)) d in
-          let b = first_wrong_parts (demands h right) (typed h (e.Binary at sign left right)) a.1 in
+          let a = first_wrong_parts (demands h left) (demands h right ++ kind_asks h (e.Binary at sign left right)) d in
+          let b = first_wrong_parts (demands h right) (kind_asks h (e.Binary at sign left right)) a.1 in
           binary_fits at sign (kind_of h left) (kind_of h right) (resolve h left) (resolve h right) (expr_fits left a.0) (expr_fits right b.0)
 
       pub args_fit : (kinds : List Kind) (es : ExprTrees) → length kinds ≡ count es → first_wrong (args_demands h kinds es) ≡ None → FitAll (resolve_all h es)

@@ -153,8 +153,8 @@ method_asks h at class name given =
 
 module _ (h : Here) where
   -- the node has a kind
-  abbrev pub typed : ExprTree → List Demand
-  typed e = ask (is_some (kind_of h e)) (Mismatch (place_of e)) ∷ []
+  abbrev pub kind_asks : ExprTree → List Demand
+  kind_asks e = ask (is_some (kind_of h e)) (Mismatch (place_of e)) ∷ []
 
   -- an expression has this kind
   abbrev pub of_kind : Kind → ExprTree → List Demand
@@ -168,14 +168,14 @@ module _ (h : Here) where
     demands (Empty at) = []
     demands (Read at name) = ask (is_some (variable h name)) (UnknownName at) ∷ []
     demands (Above at class name) = above_asks h at class name
-    demands (Index at name key) = ask (is_some (variable h name)) (UnknownName at) ∷ (demands key ++ typed (Index at name key))
-    demands (AboveIndex at class name key) = above_asks h at class name ++ (demands key ++ typed (AboveIndex at class name key))
-    demands (Call at name args) = (call_asks h at name (count args) ++ args_demands (call_takes h name) args) ++ typed (Call at name args)
+    demands (Index at name key) = ask (is_some (variable h name)) (UnknownName at) ∷ (demands key ++ kind_asks (Index at name key))
+    demands (AboveIndex at class name key) = above_asks h at class name ++ (demands key ++ kind_asks (AboveIndex at class name key))
+    demands (Call at name args) = (call_asks h at name (count args) ++ args_demands (call_takes h name) args) ++ kind_asks (Call at name args)
     demands (ChildCall at class key name args) =
         (class_asks h at class ++ ((demands key ++ of_kind k.Int key) ++ (method_asks h at class name (count args) ++ args_demands (child_takes h class name) args)))
-        ++ typed (ChildCall at class key name args)
-    demands (Unary at op operand) = demands operand ++ typed (Unary at op operand)
-    demands (Binary at op left right) = demands left ++ (demands right ++ typed (Binary at op left right))
+        ++ kind_asks (ChildCall at class key name args)
+    demands (Unary at op operand) = demands operand ++ kind_asks (Unary at op operand)
+    demands (Binary at op left right) = demands left ++ (demands right ++ kind_asks (Binary at op left right))
 
     -- each argument, and then its kind
     pub args_demands : List Kind → ExprTrees → List Demand

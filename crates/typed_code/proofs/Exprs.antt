@@ -35,7 +35,7 @@ use Rattle.type_rules.specs.Demands.{Demand, ask, first_wrong}
 use Rattle.type_rules.specs.Kinds.{has_kind, row_of_one, row_of_two, rows_of_sign, rows_of_index, rows_before}
 use Rattle.type_rules.specs.Known.{class_named, field_named, field_kind, method_named, level_of, above_of, signature_at, no_signature}
 use Rattle.type_rules.specs.Here.{Here, rows_of, local_named, of_local, or_else, variable, variable_kind, callee_named, takes, gives, is_earlier, is_child, kind_in}
-use Rattle.type_rules.specs.Exprs.{kind_of, name_kind, binary_kind, child_gives, resolve, resolve_all, or_zero, read_tree, above_tree, row_tree, one, two, binary_tree, call_tree, child_tree, count, above_asks, class_asks, method_asks, child_takes, typed, of_kind, demands, args_demands, demands_as, call_demands, child_demands}
+use Rattle.type_rules.specs.Exprs.{kind_of, name_kind, binary_kind, child_gives, resolve, resolve_all, or_zero, read_tree, above_tree, row_tree, one, two, binary_tree, call_tree, child_tree, count, above_asks, class_asks, method_asks, child_takes, kind_asks, of_kind, demands, args_demands, demands_as, call_demands, child_demands}
 use Rattle.type_rules.proofs.First.{first_wrong_parts}
 use Rattle.type_laws.proofs.Sound.{AllHold, all_hold, none_wrong}
 use Rattle.type_laws.proofs.Trees.{absent}
@@ -253,24 +253,24 @@ module _ (h : Here) (methods : List Method) (locals : List Kind) where
         expr_has (e.Above at class name) d kind g = above_has levels at class name kind d g
         expr_has (e.Index at name key) d kind g =
             let a = all_hold (demands h (e.Index at name key)) d in
-            let b = first_wrong_parts (demands h key) (typed h (e.Index at name key)) (none_wrong (demands h key ++ typed h (e.Index at name key)) a.1) in
+            let b = first_wrong_parts (demands h key) (kind_asks h (e.Index at name key)) (none_wrong (demands h key ++ kind_asks h (e.Index at name key)) a.1) in
             two_has at rows_of_index (name_kind h name) (kind_of h key) (read_tree at (variable h name)) (resolve h key) (λ x i. read_has at (variable h name) (variable_is named name) x i) (λ x i. expr_has key b.0 x i) kind g
         expr_has (e.AboveIndex at class name key) d kind g =
-            let a = first_wrong_parts (above_asks h at class name) (demands h key ++ typed h (e.AboveIndex at class name key)) d in
-            let b = first_wrong_parts (demands h key) (typed h (e.AboveIndex at class name key)) a.1 in
+            let a = first_wrong_parts (above_asks h at class name) (demands h key ++ kind_asks h (e.AboveIndex at class name key)) d in
+            let b = first_wrong_parts (demands h key) (kind_asks h (e.AboveIndex at class name key)) a.1 in
             two_has at rows_of_index (kind_in h class name) (kind_of h key) (above_tree h at class name) (resolve h key) (λ x i. above_has levels at class name x a.0 i) (λ x i. expr_has key b.0 x i) kind g
         expr_has (e.Call at name args) d kind g =
-            let a = first_wrong_parts (call_demands h at name args) (typed h (e.Call at name args)) d in
+            let a = first_wrong_parts (call_demands h at name args) (kind_asks h (e.Call at name args)) d in
             subst (Calls (call_tree at (callee_named h name) (resolve_all h args))) g (call_calls at name args (λ kinds l d. args_have kinds args l d) a.0)
         expr_has (e.ChildCall at class key name args) d kind g =
-            let a = first_wrong_parts (child_demands h at class key name args) (typed h (e.ChildCall at class key name args)) d in
+            let a = first_wrong_parts (child_demands h at class key name args) (kind_asks h (e.ChildCall at class key name args)) d in
             subst (Calls (child_tree h at class name (resolve h key) (resolve_all h args))) g (child_calls at class key name args (λ d x i. expr_has key d x i) (λ kinds l d. args_have kinds args l d) a.0)
         expr_has (e.Unary at sign operand) d kind g =
-            let a = first_wrong_parts (demands h operand) (typed h (e.Unary at sign operand)) d in
+            let a = first_wrong_parts (demands h operand) (kind_asks h (e.Unary at sign operand)) d in
             one_has at (rows_before sign) (kind_of h operand) (resolve h operand) (λ x i. expr_has operand a.0 x i) kind g
         expr_has (e.Binary at sign left right) d kind g =
-            let a = first_wrong_parts (demands h left) (demands h right ++ typed h (e.Binary at sign left right)) d in
-            let b = first_wrong_parts (demands h right) (typed h (e.Binary at sign left right)) a.1 in
+            let a = first_wrong_parts (demands h left) (demands h right ++ kind_asks h (e.Binary at sign left right)) d in
+            let b = first_wrong_parts (demands h right) (kind_asks h (e.Binary at sign left right)) a.1 in
             binary_has at sign (kind_of h left) (kind_of h right) (resolve h left) (resolve h right) (λ x i. expr_has left a.0 x i) (λ x i. expr_has right b.0 x i) kind g
 
         pub args_have : (kinds : List Kind) (es : ExprTrees) → length kinds ≡ count es → first_wrong (args_demands h kinds es) ≡ None → Have (resolve_all h es) kinds

@@ -25,7 +25,7 @@ use Rattle.type_rules.specs.Demands.{ask, first_wrong}
 use Rattle.type_rules.specs.Kinds.{has_kind}
 use Rattle.type_rules.specs.Known.{class_named, event_named, event_params, field_named, field_kind}
 use Rattle.type_rules.specs.Here.{Here, Function, OfMethod, OfEvent, variable, variable_kind, callee_named, gives}
-use Rattle.type_rules.specs.Exprs.{kind_of, resolve, resolve_all, or_zero, call_tree, child_tree, child_gives, above_asks, typed, demands, args_demands, demands_as, call_demands, child_demands}
+use Rattle.type_rules.specs.Exprs.{kind_of, resolve, resolve_all, or_zero, call_tree, child_tree, child_gives, above_asks, kind_asks, demands, args_demands, demands_as, call_demands, child_demands}
 use Rattle.type_rules.specs.Stmts.{kind_or_int, own_variable, target_variable, target_kind, own_asks, target_asks, key_demands, set_demands, spawn_demands, end_demands, return_demands, finish_demands, set_step, cut_step}
 use Rattle.type_rules.proofs.First.{first_wrong_parts}
 use Rattle.type_laws.proofs.Sound.{AllHold, all_hold, none_wrong}
@@ -51,20 +51,20 @@ kinded h (e.Above at class name) d = let a = all_hold (above_asks h at class nam
     by None a b = absurd (absent a)
     by (Some c) a b = let f = some_of (field_named h.known c name) b in (field_kind h.known c f.0, ap (option_map (λ f. field_kind h.known c f)) f.1)
 kinded h (e.Index at name key) d =
-    let a = none_wrong (demands h key ++ typed h (e.Index at name key)) (all_hold (demands h (e.Index at name key)) d).1 in
-    some_of (kind_of h (e.Index at name key)) (all_hold (typed h (e.Index at name key)) (first_wrong_parts (demands h key) (typed h (e.Index at name key)) a).1).0
+    let a = none_wrong (demands h key ++ kind_asks h (e.Index at name key)) (all_hold (demands h (e.Index at name key)) d).1 in
+    some_of (kind_of h (e.Index at name key)) (all_hold (kind_asks h (e.Index at name key)) (first_wrong_parts (demands h key) (kind_asks h (e.Index at name key)) a).1).0
 kinded h (e.AboveIndex at class name key) d =
-    let a = first_wrong_parts (above_asks h at class name) (demands h key ++ typed h (e.AboveIndex at class name key)) d in
-    some_of (kind_of h (e.AboveIndex at class name key)) (all_hold (typed h (e.AboveIndex at class name key)) (first_wrong_parts (demands h key) (typed h (e.AboveIndex at class name key)) a.1).1).0
+    let a = first_wrong_parts (above_asks h at class name) (demands h key ++ kind_asks h (e.AboveIndex at class name key)) d in
+    some_of (kind_of h (e.AboveIndex at class name key)) (all_hold (kind_asks h (e.AboveIndex at class name key)) (first_wrong_parts (demands h key) (kind_asks h (e.AboveIndex at class name key)) a.1).1).0
 kinded h (e.Call at name args) d =
-    some_of (kind_of h (e.Call at name args)) (all_hold (typed h (e.Call at name args)) (first_wrong_parts (call_demands h at name args) (typed h (e.Call at name args)) d).1).0
+    some_of (kind_of h (e.Call at name args)) (all_hold (kind_asks h (e.Call at name args)) (first_wrong_parts (call_demands h at name args) (kind_asks h (e.Call at name args)) d).1).0
 kinded h (e.ChildCall at class key name args) d =
-    some_of (kind_of h (e.ChildCall at class key name args)) (all_hold (typed h (e.ChildCall at class key name args)) (first_wrong_parts (child_demands h at class key name args) (typed h (e.ChildCall at class key name args)) d).1).0
+    some_of (kind_of h (e.ChildCall at class key name args)) (all_hold (kind_asks h (e.ChildCall at class key name args)) (first_wrong_parts (child_demands h at class key name args) (kind_asks h (e.ChildCall at class key name args)) d).1).0
 kinded h (e.Unary at sign operand) d =
-    some_of (kind_of h (e.Unary at sign operand)) (all_hold (typed h (e.Unary at sign operand)) (first_wrong_parts (demands h operand) (typed h (e.Unary at sign operand)) d).1).0
+    some_of (kind_of h (e.Unary at sign operand)) (all_hold (kind_asks h (e.Unary at sign operand)) (first_wrong_parts (demands h operand) (kind_asks h (e.Unary at sign operand)) d).1).0
 kinded h (e.Binary at sign left right) d =
-    let a = first_wrong_parts (demands h left) (demands h right ++ typed h (e.Binary at sign left right)) d in
-    some_of (kind_of h (e.Binary at sign left right)) (all_hold (typed h (e.Binary at sign left right)) (first_wrong_parts (demands h right) (typed h (e.Binary at sign left right)) a.1).1).0
+    let a = first_wrong_parts (demands h left) (demands h right ++ kind_asks h (e.Binary at sign left right)) d in
+    some_of (kind_of h (e.Binary at sign left right)) (all_hold (kind_asks h (e.Binary at sign left right)) (first_wrong_parts (demands h right) (kind_asks h (e.Binary at sign left right)) a.1).1).0
 
 -- an event that is named is there, with what it takes
 event_there : (known : Known) (event : List ℕ) (n : ℕ) → event_named known event ≡ Some n → (info : EventInfo) × (slice_get known.shape.events n ≡ Some info) × (event_params known n ≡ info.params)

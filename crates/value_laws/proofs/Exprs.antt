@@ -119,10 +119,10 @@ module _ (edition : Edition) where
     arguments : Gives IsToken (Each IsExpr) (g.arguments edition u)
     arguments = in_parens (g.expr edition u) expr
 
-    bracketed : Gives IsToken IsExpr (g.bracketed edition u)
+    bracketed : Gives IsToken IsExpr (g.bracketed_expr edition u)
     bracketed = next (any (w.sign s.LeftBracket)) (λ at _. next expr (λ key f. next (any (w.sign s.RightBracket)) (λ to _. whole key f)))
 
-    parenthesized : Gives IsToken IsExpr (g.parenthesized edition u)
+    parenthesized : Gives IsToken IsExpr (g.parenthesized_expr edition u)
     parenthesized = next (any (w.sign s.LeftParen)) (λ at _. next expr (λ inner f. next (any (w.sign s.RightParen)) (λ to _. whole inner f)))
 
     read : Gives IsToken IsExpr (g.read edition u)
@@ -146,7 +146,7 @@ module _ (edition : Edition) where
     primary : Gives IsToken IsExpr (g.primary edition u)
     primary = either literal (either parenthesized (either read (either above (either call (either index (either above_index child_call))))))
 
-    signed : Gives IsToken IsExpr (g.signed edition u)
+    signed : Gives IsToken IsExpr (g.signed_expr edition u)
     signed = next (any w.unary_op) (λ o _. next U (λ x f. whole (e.Unary o.0 o.1 x) (unary_is o x f)))
 
     signed_or_primary : Gives IsToken IsExpr (g.signed_or_primary edition u)

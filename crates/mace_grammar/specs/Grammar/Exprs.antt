@@ -67,16 +67,16 @@ module _ (edition : Edition) where
     arguments = in_parens expr
 
     -- "[" Expr "]"
-    abbrev pub bracketed : Part ExprTree
-    bracketed = do
+    abbrev pub bracketed_expr : Part ExprTree
+    bracketed_expr = do
       sign s.LeftBracket
       key ← expr
       sign s.RightBracket
       pure key
 
     -- "(" Expr ")"
-    abbrev pub parenthesized : Part ExprTree
-    parenthesized = do
+    abbrev pub parenthesized_expr : Part ExprTree
+    parenthesized_expr = do
       sign s.LeftParen
       inner ← expr
       sign s.RightParen
@@ -106,7 +106,7 @@ module _ (edition : Edition) where
     abbrev pub index : Part ExprTree
     index = do
       m ← name edition
-      key ← bracketed
+      key ← bracketed_expr
       pure (e.Index m.at m.text key)
 
     -- Name "." Name "[" Expr "]"
@@ -114,14 +114,14 @@ module _ (edition : Edition) where
     above_index = do
       c ← name edition
       f ← field
-      key ← bracketed
+      key ← bracketed_expr
       pure (e.AboveIndex c.at c.text f.text key)
 
     -- Name "[" Expr "]" "." Name "(" Args ")"
     abbrev pub child_call : Part ExprTree
     child_call = do
       c ← name edition
-      key ← bracketed
+      key ← bracketed_expr
       f ← field
       found ← arguments
       pure (e.ChildCall c.at c.text key f.text (exprs_of found))
@@ -129,17 +129,17 @@ module _ (edition : Edition) where
     -- Primary = Number | Text | "true" | "false" | "empty" | "(" Expr ")" | Name | Name "." Name | Name "(" Args ")" | Name "[" Expr "]"
     --         | Name "." Name "[" Expr "]" | Name "[" Expr "]" "." Name "(" Args ")"
     abbrev pub primary : Part ExprTree
-    primary = literal or parenthesized or read or above or call or index or above_index or child_call
+    primary = literal or parenthesized_expr or read or above or call or index or above_index or child_call
 
     -- Unary = ("-" | "!") Unary | Primary
-    abbrev pub signed : Part ExprTree
-    signed = do
+    abbrev pub signed_expr : Part ExprTree
+    signed_expr = do
       o ← unary_op
       operand ← unary
       pure (e.Unary o.0 o.1 operand)
 
     abbrev pub signed_or_primary : Part ExprTree
-    signed_or_primary = signed or primary
+    signed_or_primary = signed_expr or primary
 
   abbrev pub unary : Part ExprTree
   unary = deep_part signed_or_primary
@@ -151,4 +151,4 @@ module _ (edition : Edition) where
   any_arguments = arguments unary
 
   unfoldable pub any_key : Part ExprTree
-  any_key = bracketed unary
+  any_key = bracketed_expr unary

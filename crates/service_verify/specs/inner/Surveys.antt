@@ -8,7 +8,7 @@ use Rattle.service_code.specs.declared.program.Function.{Function}
 use Rattle.service_code.specs.declared.program.Program.{Program}
 use Rattle.service_verify.specs.Looks.{is_quiet, stays_behind, after_go, is_quiet_function, looks_from}
 use Rattle.service_verify.specs.Points.{Table, judged_function}
-use Rattle.service_verify.specs.Reads.{functions_read, kept}
+use Rattle.service_verify.specs.Reads.{functions_read, read_marks}
 
 -- what a table says of a number, and no past its end
 abbrev pub says : List Bool → ℕ → Bool
@@ -41,7 +41,7 @@ Keep program count = (n : ℕ) (f : Function) → n < count → slice_get progra
 -- what is known after so many functions: with what the others read, the kept fields; and which of them are quiet, and peek
 pub record IsSurveyed (program : Program) (count : ℕ) (marks : List (List Bool)) (quiet : List Bool) (looks : List (Option ℕ)) : Type 0 where
   pub classes : length marks ≡ length program.shape.classes
-  pub marked : (c f : ℕ) → option_map (λ b. b || functions_read program c f count (drop count program.functions)) (mark_of marks c f) ≡ slice_get (kept program c) f
+  pub marked : (c f : ℕ) → option_map (λ b. b || functions_read program c f count (drop count program.functions)) (mark_of marks c f) ≡ slice_get (read_marks program c) f
   pub quiet_long : length quiet ≡ count
   pub are_quiet : (n : ℕ) → n < count → slice_get quiet n ≡ Some (is_quiet_function program n)
   pub looks_long : length looks ≡ count
@@ -49,7 +49,7 @@ pub record IsSurveyed (program : Program) (count : ℕ) (marks : List (List Bool
 
 -- the tables of a program
 pub record HasTables (program : Program) (marks : List (List Bool)) (looks : List (Option ℕ)) : Type 0 where
-  pub kept : (c : ℕ) → c < length program.shape.classes → slice_get marks c ≡ Some (kept program c)
+  pub kept : (c : ℕ) → c < length program.shape.classes → slice_get marks c ≡ Some (read_marks program c)
   pub only_look : (n : ℕ) → n < length program.functions → slice_get looks n ≡ Some (looks_from program n)
   pub many : length looks ≡ length program.functions
 

@@ -1,7 +1,7 @@
 use Rattle.std.proofs.Common.{◌≡◌, ℕ, List, subst, rules}
 use Rattle.kept_lock.specs.declared.view.Known.{Known}
 use Rattle.kept_lock.specs.History.{entries_of}
-use Rattle.kept_lock.specs.Knowing.{Accounts, joined}
+use Rattle.kept_lock.specs.Knowing.{Accounts, joined_pass}
 use Rattle.kept_lock.specs.Locks.{known}
 use Rattle.kept_lock.proofs.Accounts.{joined_accounts}
 use Rattle.lock_counter.proofs.four.add_by_four.Goals as goal
@@ -12,7 +12,7 @@ record Three {E : Type 0} (owner : E → ℕ) (two three four : Known E) (log : 
   third : entries_of owner three.number log ≡ three.made
   fourth : entries_of owner four.number log ≡ four.made
 
-three_joined : {E : Type 0} → (owner : E → ℕ) (one two three four a b c : Known E) (log : List E) → a ≡ joined one two → b ≡ joined a three → c ≡ joined b four → Accounts owner c log
+three_joined : {E : Type 0} → (owner : E → ℕ) (one two three four a b c : Known E) (log : List E) → a ≡ joined_pass one two → b ≡ joined_pass a three → c ≡ joined_pass b four → Accounts owner c log
     → Three owner two three four log
 three_joined owner one two three four a b c log first second third h =
     let last = joined_accounts owner b four log (subst (λ k. Accounts owner k log) third h) in

@@ -3,7 +3,7 @@ use Rattle.wave_base.specs.Shapes.{class_of}
 use Rattle.service_verify.specs.Fit.{IsFit}
 use Rattle.service_verify.specs.Links.{AreLinked}
 use Rattle.service_verify.specs.Points.{IsVerified}
-use Rattle.service_verify.specs.Reads.{kept}
+use Rattle.service_verify.specs.Reads.{read_marks}
 use Rattle.service_verify.specs.Standing.{HasFields, Stands}
 use Rattle.service_vm.specs.Boxes.{Boxed, event_in}
 use Rattle.service_vm.specs.Wants.{MayWantIn}
@@ -33,8 +33,8 @@ leave-requires c =
     let e = c.program.ensures.program in
     let stands = subst (λ q. Stands q s.0 s.1 (event_in c.event.inside.ended c.event.inside.run)) (sym e) (subst (Stands c.args.program.now s.0 s.1) (sym (ap (λ (b : Boxed). b.event) c.event.view_is)) s.2) in
     let has = subst (λ q. HasFields q.shape s.0 c.args.body.now.fields) (sym e) s.3 in
-    ap length (c.kept_fields.ensures.kept ∙ ap (kept c.args.program.now) c.class-class.ensures)
-    ∙ ap (λ q. length (kept q (class_of c.event.inside.run.path))) (sym e)
+    ap length (c.kept_fields.ensures.kept ∙ ap (read_marks c.args.program.now) c.class-class.ensures)
+    ∙ ap (λ q. length (read_marks q (class_of c.event.inside.run.path))) (sym e)
     ∙ kept_fits c.program.result.now (subst IsFit (sym e) c.requires.fit) (subst IsVerified (sym e) c.program.ensures.verified) s.0 s.1 c.event.inside.ended c.event.inside.run c.pause.new.self c.args.body.now.fields c.pause.new.fields c.in_ok-why.why stands has c.in_ok-why.ensures.did
 
 pub returns-in_err-why-clause-wants : goal.returns-in_err-why-clause-wants

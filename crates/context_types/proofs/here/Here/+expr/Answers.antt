@@ -10,7 +10,7 @@ use Rattle.type_rules.specs.declared.meant.Callee.TheVariants as callee
 use Rattle.type_rules.specs.Demands.{first_wrong, Fails}
 use Rattle.type_rules.specs.Known.{method_named}
 use Rattle.type_rules.specs.Here.{callee_named}
-use Rattle.type_rules.specs.Exprs.{count, demands, of_kind, typed, args_demands, call_demands, child_demands, call_gives, call_tree, child_gives, child_tree, resolve, resolve_all}
+use Rattle.type_rules.specs.Exprs.{count, demands, of_kind, kind_asks, args_demands, call_demands, child_demands, call_gives, call_tree, child_gives, child_tree, resolve, resolve_all}
 use Rattle.type_rules.proofs.First.{fails_at, fails_past, fails_same, fails_front, fails_behind, told_past}
 use Rattle.type_tables.proofs.Walks.{differ}
 use Rattle.context_types.specs.inner.Places.{here_of}
@@ -117,7 +117,7 @@ expr-returns-in_err-key-in-Index t c =
     let whole = e.Index at c.in-Index.name a in
     answers_as h _ whole _ (ap (λ n. node_tree n at) c.in-Index.is ∙ index_node c.in-Index.name c.in-Index.key at ∙ ap (λ x. e.Index at c.in-Index.name (expr_tree x)) (sym c.deref.ensures))
     (exit _ _ _ (err_from_is_err_and c.from_residual-in_err-key-in-Index.result c.from_residual-in_err-key-in-Index.ensures.1) (demands h whole)
-    (fails_behind (demands h (e.Read at c.in-Index.name)) (demands h a ++ typed h whole) _ c.in_ok-map-in-Index.ensures.0 (fails_front (demands h a) (typed h whole) _ c.in_err-key-in-Index.ensures)))
+    (fails_behind (demands h (e.Read at c.in-Index.name)) (demands h a ++ kind_asks h whole) _ c.in_ok-map-in-Index.ensures.0 (fails_front (demands h a) (kind_asks h whole) _ c.in_err-key-in-Index.ensures)))
 
 pub expr-returns-in_err-key-in-AboveIndex : goal.expr-returns-in_err-key-in-AboveIndex
 expr-returns-in_err-key-in-AboveIndex t c =
@@ -128,7 +128,7 @@ expr-returns-in_err-key-in-AboveIndex t c =
     answers_as h _ whole _
     (ap (λ n. node_tree n at) c.in-AboveIndex.is ∙ above_index_node c.in-AboveIndex.class c.in-AboveIndex.name c.in-AboveIndex.key at ∙ ap (λ x. e.AboveIndex at c.in-AboveIndex.class c.in-AboveIndex.name (expr_tree x)) (sym c.deref-in-AboveIndex.ensures))
     (exit _ _ _ (err_from_is_err_and c.from_residual-in_err-key-in-AboveIndex.result c.from_residual-in_err-key-in-AboveIndex.ensures.1) (demands h whole)
-    (fails_behind (demands h (e.Above at c.in-AboveIndex.class c.in-AboveIndex.name)) (demands h a ++ typed h whole) _ c.in_ok-map-in-AboveIndex.ensures.0 (fails_front (demands h a) (typed h whole) _ c.in_err-key-in-AboveIndex.ensures)))
+    (fails_behind (demands h (e.Above at c.in-AboveIndex.class c.in-AboveIndex.name)) (demands h a ++ kind_asks h whole) _ c.in_ok-map-in-AboveIndex.ensures.0 (fails_front (demands h a) (kind_asks h whole) _ c.in_err-key-in-AboveIndex.ensures)))
 
 pub expr-returns-in_err-called-in-Call : goal.expr-returns-in_err-called-in-Call
 expr-returns-in_err-called-in-Call t c =
@@ -138,7 +138,7 @@ expr-returns-in_err-called-in-Call t c =
     let whole = e.Call at c.in-Call.name given in
     answers_as h _ whole _ (ap (λ n. node_tree n at) c.in-Call.is ∙ call_node c.in-Call.name c.in-Call.args at ∙ ap (λ l. e.Call at c.in-Call.name (exprs_of (map expr_tree l))) (sym c.deref-in-Call.ensures.value))
     (exit _ _ _ (err_from_is_err_and c.from_residual-in_err-called-in-Call.result c.from_residual-in_err-called-in-Call.ensures.1) (demands h whole)
-    (fails_front (call_demands h at c.in-Call.name given) (typed h whole) _ c.in_err-called-in-Call.ensures))
+    (fails_front (call_demands h at c.in-Call.name given) (kind_asks h whole) _ c.in_err-called-in-Call.ensures))
 
 pub expr-returns-in_err-key-in-ChildCall : goal.expr-returns-in_err-key-in-ChildCall
 expr-returns-in_err-key-in-ChildCall t c =
@@ -151,7 +151,7 @@ expr-returns-in_err-key-in-ChildCall t c =
     let whole = e.ChildCall at class a name given in
     answers_as h _ whole _ (ap (λ n. node_tree n at) c.in-ChildCall.is ∙ child_call_node class c.in-ChildCall.key name c.in-ChildCall.args at ∙ ap (λ x. e.ChildCall at class (expr_tree x) name given) (sym c.deref-in-ChildCall.ensures))
     (exit _ _ _ (err_from_is_err_and c.from_residual-in_err-key-in-ChildCall.result c.from_residual-in_err-key-in-ChildCall.ensures.1) (demands h whole)
-    (fails_front (child_demands h at class a name given) (typed h whole) _ (key_fails h at class a name given _ c.in_ok-class-in-ChildCall.ensures.0 c.in_err-key-in-ChildCall.ensures)))
+    (fails_front (child_demands h at class a name given) (kind_asks h whole) _ (key_fails h at class a name given _ c.in_ok-class-in-ChildCall.ensures.0 c.in_err-key-in-ChildCall.ensures)))
 
 pub expr-returns-in_err-called-in-ChildCall : goal.expr-returns-in_err-called-in-ChildCall
 expr-returns-in_err-called-in-ChildCall t c =
@@ -166,7 +166,7 @@ expr-returns-in_err-called-in-ChildCall t c =
     (ap (λ n. node_tree n at) c.in-ChildCall.is ∙ child_call_node class c.in-ChildCall.key name c.in-ChildCall.args at
     ∙ (λ i. e.ChildCall at class (expr_tree (sym c.deref-in-ChildCall.ensures i)) name (exprs_of (map expr_tree (sym c.deref-in-ChildCall-2.ensures.value i)))))
     (exit _ _ _ (err_from_is_err_and c.from_residual-in_err-called-in-ChildCall.result c.from_residual-in_err-called-in-ChildCall.ensures.1) (demands h whole)
-    (fails_front (child_demands h at class a name given) (typed h whole) _
+    (fails_front (child_demands h at class a name given) (kind_asks h whole) _
     (child_fails h at class a name given c.in_ok-class-in-ChildCall.class c.in_ok-class-in-ChildCall.ensures.1 _ c.in_ok-class-in-ChildCall.ensures.0 c.in_ok-key-in-ChildCall.ensures.0 c.in_err-called-in-ChildCall.ensures)))
 
 pub expr-returns-in_err-operand-in-Unary : goal.expr-returns-in_err-operand-in-Unary
@@ -176,7 +176,7 @@ expr-returns-in_err-operand-in-Unary t c =
     let a = expr_tree c.deref-in-Unary.result.now in
     let whole = e.Unary at c.in-Unary.op a in
     answers_as h _ whole _ (ap (λ n. node_tree n at) c.in-Unary.is ∙ unary_node c.in-Unary.op c.in-Unary.operand at ∙ ap (λ x. e.Unary at c.in-Unary.op (expr_tree x)) (sym c.deref-in-Unary.ensures))
-    (exit_front _ _ _ (err_from_is_err_and c.from_residual-in_err-operand-in-Unary.result c.from_residual-in_err-operand-in-Unary.ensures.1) (demands h a) (typed h whole) c.in_err-operand-in-Unary.ensures)
+    (exit_front _ _ _ (err_from_is_err_and c.from_residual-in_err-operand-in-Unary.result c.from_residual-in_err-operand-in-Unary.ensures.1) (demands h a) (kind_asks h whole) c.in_err-operand-in-Unary.ensures)
 
 pub expr-returns-in_err-left-in-Binary : goal.expr-returns-in_err-left-in-Binary
 expr-returns-in_err-left-in-Binary t c =
@@ -186,7 +186,7 @@ expr-returns-in_err-left-in-Binary t c =
     let b = expr_tree c.in-Binary.right.value in
     let whole = e.Binary at c.in-Binary.op a b in
     answers_as h _ whole _ (ap (λ n. node_tree n at) c.in-Binary.is ∙ binary_node c.in-Binary.op c.in-Binary.left c.in-Binary.right at ∙ ap (λ x. e.Binary at c.in-Binary.op (expr_tree x) b) (sym c.deref-in-Binary.ensures))
-    (exit_front _ _ _ (err_from_is_err_and c.from_residual-in_err-left-in-Binary.result c.from_residual-in_err-left-in-Binary.ensures.1) (demands h a) (demands h b ++ typed h whole) c.in_err-left-in-Binary.ensures)
+    (exit_front _ _ _ (err_from_is_err_and c.from_residual-in_err-left-in-Binary.result c.from_residual-in_err-left-in-Binary.ensures.1) (demands h a) (demands h b ++ kind_asks h whole) c.in_err-left-in-Binary.ensures)
 
 pub expr-returns-in_err-right-in-Binary : goal.expr-returns-in_err-right-in-Binary
 expr-returns-in_err-right-in-Binary t c =
@@ -198,7 +198,7 @@ expr-returns-in_err-right-in-Binary t c =
     answers_as h _ whole _
     (ap (λ n. node_tree n at) c.in-Binary.is ∙ binary_node c.in-Binary.op c.in-Binary.left c.in-Binary.right at ∙ (λ i. e.Binary at c.in-Binary.op (expr_tree (sym c.deref-in-Binary.ensures i)) (expr_tree (sym c.deref-in-Binary-2.ensures i))))
     (exit _ _ _ (err_from_is_err_and c.from_residual-in_err-right-in-Binary.result c.from_residual-in_err-right-in-Binary.ensures.1) (demands h whole)
-    (fails_behind (demands h a) (demands h b ++ typed h whole) _ c.in_ok-left-in-Binary.ensures.0 (fails_front (demands h b) (typed h whole) _ c.in_err-right-in-Binary.ensures)))
+    (fails_behind (demands h a) (demands h b ++ kind_asks h whole) _ c.in_ok-left-in-Binary.ensures.0 (fails_front (demands h b) (kind_asks h whole) _ c.in_err-right-in-Binary.ensures)))
 
 pub expr-returns-in_ok-key-in-Index : goal.expr-returns-in_ok-key-in-Index
 expr-returns-in_ok-key-in-Index t c =

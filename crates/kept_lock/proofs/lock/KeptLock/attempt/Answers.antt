@@ -2,7 +2,7 @@ use Rattle.std.proofs.Common.{◌≡◌, ◌∙◌, ap, sym, subst, refl, rules}
 use Rattle.std.specs.Fn.{FnOnceReturnsAtMut}
 use Rattle.kept_lock.specs.declared.view.Known.{Known}
 use Rattle.kept_lock.specs.History.{Adds}
-use Rattle.kept_lock.specs.Knowing.{Agrees, Accounts, entered, left_at}
+use Rattle.kept_lock.specs.Knowing.{Agrees, Accounts, pass_inside, left_at}
 use Rattle.kept_lock.specs.Locks.{name_of, known}
 use Rattle.kept_lock.specs.Guards.{pass_in}
 use Rattle.kept_lock.specs.Visits.{Meets}
@@ -18,8 +18,8 @@ meets g c = let e = c.enter-guard.ensures in let is = c.get_mut.ensures.value in
   accounts = at_value (λ z. Accounts g.V.Kept.owner (known c.args.pass.now) (g.V.Kept.history z)) _ y is e.accounts;
 }
 
-entered_there : (g : given.Over) (c : goal.After-guard-2-1 g) → known (pass_in c.enter-guard.result) ≡ entered (known c.args.pass.now) (g.V.Kept.history c.get_mut.result.now)
-entered_there g c = at_value (λ z. known (pass_in c.enter-guard.result) ≡ entered (known c.args.pass.now) (g.V.Kept.history z)) _ c.get_mut.result.now c.get_mut.ensures.value c.enter-guard.ensures.entered
+entered_there : (g : given.Over) (c : goal.After-guard-2-1 g) → known (pass_in c.enter-guard.result) ≡ pass_inside (known c.args.pass.now) (g.V.Kept.history c.get_mut.result.now)
+entered_there g c = at_value (λ z. known (pass_in c.enter-guard.result) ≡ pass_inside (known c.args.pass.now) (g.V.Kept.history z)) _ c.get_mut.result.now c.get_mut.ensures.value c.enter-guard.ensures.entered
 
 did : (g : given.Over) (c : goal.After-guard-2-1 g) → FnOnceReturnsAtMut g.F.FnOnce c.args.work c.get_mut.result.now c.work-result.result c.work-result.new.arg2
 did g c = record { shown = c.get_mut.result; shows = refl; left = at_last c.get_mut.result c.work-result.new.arg2; met = c.work-result.ensures; leaves = refl }
@@ -36,7 +36,7 @@ leave_as-requires-clause-adds g c = subst (λ (k : Known g.row.V-Entry.Denot). A
 pub returns-clause-done : goal.returns-clause-done
 returns-clause-done g c =
     let e = c.enter-guard.ensures in let is = c.get_mut.ensures.value in let y = c.get_mut.result.now in let k = known c.args.pass.now in let z = c.work-result.new.arg2 in
-    let inside = at_value (λ t. known (pass_in c.enter-guard.result) ≡ entered k (g.V.Kept.history t)) _ y is e.entered in (
+    let inside = at_value (λ t. known (pass_in c.enter-guard.result) ≡ pass_inside k (g.V.Kept.history t)) _ y is e.entered in (
       y,
       z,
       record {
