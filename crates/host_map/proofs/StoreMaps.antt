@@ -1,5 +1,5 @@
 -- The lemmas of tables at paths.
-use Rattle.std.proofs.Common.{◌≡◌, ◌||◌, ℕ, zero, suc, Bool, true, false, List, [], ◌∷◌, Option, Some, None, is_some, cond, length, filter, position, slice_get, get_or, refl, sym, ap, ◌∙◌}
+use Rattle.std.proofs.Common.{◌≡◌, ◌||◌, ℕ, zero, suc, Bool, true, false, List, [], ◌∷◌, Option, Some, None, is_some, IfSome, cond, length, filter, position, slice_get, get_or, refl, sym, ap, ◌∙◌}
 use Rattle.std.specs.List.{list_any, IsDistinct}
 use Rattle.std.proofs.lemmas.List.Quantifiers.{position-Some}
 use Rattle.std.proofs.lemmas.Map.Entries.{lookup-filter-values, option_filter}
@@ -48,10 +48,30 @@ module _ {X : Type 0} where
   entry_at (e ∷ es) zero p v k h = ap Some (λ j. (k j, same_Some e.1 v h j))
   entry_at (e ∷ es) (suc i) p v k h = entry_at es i p v k h
 
-  module _ {S : Type 0} (m : IndexMap Path X S) (p : Path) (i : ℕ) (v : X) (unique : IsUnique path_eq m) (at : position (path_eq p) (keys m) ≡ Some i) (value : slice_get (values m) i ≡ Some v) where
+  -- and its key and its value
+  pub key_of_entry : (es : List (Path × X)) (i : ℕ) (k d : Path) (v : X) → slice_get es i ≡ Some (k, v) → get_or (keys_of es) i d ≡ k
+  key_of_entry [] i k d v h = cc
+  key_of_entry (e ∷ es) zero k d v h = let same : e ≡ (k, v) = cc in ap (λ x. x.0) same
+  key_of_entry (e ∷ es) (suc i) k d v h = key_of_entry es i k d v h
+
+  pub value_of_entry : (es : List (Path × X)) (i : ℕ) (k : Path) (v : X) → slice_get es i ≡ Some (k, v) → slice_get (values_of es) i ≡ Some v
+  value_of_entry [] i k v h = cc
+  value_of_entry (e ∷ es) zero k v h = let same : e ≡ (k, v) = cc in ap (λ x. Some x.1) same
+  value_of_entry (e ∷ es) (suc i) k v h = value_of_entry es i k v h
+
+  -- where nothing is found there is none
+  pub is_none_of : (o : Option X) → false ≡ is_some o → None ≡ o
+  is_none_of None e = refl
+  is_none_of (Some x) e = cc
+
+  -- a path that is found stands where it is found
+  pub found_key : {S : Type 0} (m : IndexMap Path X S) (p : Path) (o : Option ℕ) → o ≡ position (path_eq p) (keys m) → IfSome o (λ i. get_or (keys m) i p ≡ p)
+  found_key m p None e = tt
+  found_key m p (Some i) e = key_at p (get_or (keys m) i p) (position-Some (path_eq p) (keys m) i p (sym e)).1
+
+  module _ {S : Type 0} (m : IndexMap Path X S) (p : Path) (i : ℕ) (v : X) (unique : IsUnique path_eq m) (key : get_or (keys m) i p ≡ p) (value : slice_get (values m) i ≡ Some v) where
     pub written : (w : X) → table.from_entries {R = path_cmp} (with_value_at m i w).entries ≡ table.insert (table.from_entries m.entries) p w
     written w =
-        let key : get_or (keys m) i p ≡ p = key_at p (get_or (keys m) i p) (position-Some (path_eq p) (keys m) i p at).1 in
         inserted m.entries (with_value_at m i w).entries p w (updates-with_value_at m i w path_eq_equiv unique p v (entry_at m.entries i p v key value)).0
 
 -- ---- the paths

@@ -6,7 +6,7 @@ ghost use Rattle.context_queue.specs.contracts.entry.Entry.{the_row as entry_row
 ghost use Rattle.host_map.specs.contracts.store.HostStore.{the_row};
 ghost use Rattle.host_map.specs.Stores.{has, with_entry};
 
-use crate::store::HostStore;
+use crate::store::{HostStore, place_in};
 use context_queue::Entry;
 use wave_base::Path;
 
@@ -17,7 +17,8 @@ impl HostStore {
         ensures* writes_back { sem 𝓛 (Lends the_row entry_row self.entry result (with_entry self.old path.now)) }
         ensures value { map.get self.old.store path.now ≡ Some result.now }
     {
-        let place = self.store.get_index_of(path).unwrap();
+        let place = place_in(&self.store, self.last, path).unwrap();
+        self.last = place;
         &mut self.store[place]
     }
 }

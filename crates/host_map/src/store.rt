@@ -1,10 +1,10 @@
 //! The contexts at a host, and where those went that left it.
 
-ghost use Rattle.std.specs.Prelude.{◌≡◌, ◌≤◌, ◌+◌, OnOk, IfOk, Some, option_copied, option_map, position, length, IfSome, ◌<◌};
+ghost use Rattle.std.specs.Prelude.{◌≡◌, ◌≤◌, ◌+◌, OnOk, IfOk, Some, get_or, is_some, option_copied, option_map, position, length, slice_get, IfSome, ◌<◌};
 ghost use Rattle.std.specs.List.{list_any, IsDistinct};
 ghost use Rattle.std.specs.FinMap as map;
 ghost use Rattle.host_map.specs.Stores.{find_in, has, is_counted};
-ghost use Rattle.indexmap.specs.IndexMap.{keys};
+ghost use Rattle.indexmap.specs.IndexMap.{get_by, index_map_len, keys, values, IsUnique};
 ghost use Rattle.wave_base.specs.declared.path.Path as path;
 ghost use Rattle.wave_base.specs.Paths.{path_eq};
 
@@ -40,6 +40,8 @@ pub struct HostStore {
     /// The entries that are here, by their paths.
     pub(crate) store: IndexMap<Path, Entry>,
     gone: IndexMap<Path, Mark>,
+    /// Where the entry stood that was lent last. It is looked for there first, since most look-ups are of one context several times.
+    pub(crate) last: usize,
 }
 
 impl Model for HostStore {
@@ -63,6 +65,7 @@ impl HostStore {
         HostStore {
             store: IndexMap::new(alloc),
             gone: IndexMap::new(alloc),
+            last: 0,
         }
     }
 
@@ -93,14 +96,17 @@ impl HostStore {
     pub fn has(&self, path: &Path) -> bool
         ensures { result ≡ has path.now self.now }
     {
-        self.store.contains_key(path)
+        place_in(&self.store, self.last, path).is_some()
     }
 
     /// The entry of a context.
     pub fn entry(&self, path: &Path) -> Option<&Entry>
         ensures { option_copied result ≡ map.get self.now.store path.now }
     {
-        self.store.get(path)
+        match place_in(&self.store, self.last, path) {
+            Some(place) => Some(&self.store[place]),
+            None => None,
+        }
     }
 
     /// The paths of the contexts that are here, each once, in any order.
@@ -192,6 +198,22 @@ impl HostStore {
         // a number, which counts each mark once
         let _ = self.gone.len();
         self.gone.clear();
+    }
+}
+
+// The place of a path in a table: where one says that it may stand, if it does, and else it is searched for.
+pub(crate) fn place_in(table: &IndexMap<Path, Entry>, last: usize, path: &Path) -> Option<usize>
+    ensures key { IfSome result (λ i. get_or (keys table.now) i path.now ≡ path.now) }
+    ensures found { is_some result ≡ is_some (get_by (path_eq path.now) table.now) }
+    ensures within { IfSome result (λ i. i < index_map_len table.now) }
+    ensures value { IfSome result (λ i. slice_get (values table.now) i ≡ get_by (path_eq path.now) table.now) }
+    ensures unique { IsUnique path_eq table.now }
+{
+    // a number, which counts each path once
+    let _ = table.len();
+    match table.get_index(last) {
+        Some((found, _)) if *found == *path => Some(last),
+        _ => table.get_index_of(path),
     }
 }
 
