@@ -1,5 +1,5 @@
 -- The lemmas of tables at numbers.
-use Rattle.std.proofs.Common.{◌≡◌, ℕ, List, [], ◌∷◌, Option, Some, None, true, false, cond, length, sym, ◌∙◌, arith, refl}
+use Rattle.std.proofs.Common.{rules, ◌≡◌, ℕ, Bool, List, [], ◌∷◌, Option, Some, None, true, false, cond, length, sym, ap, ◌∙◌, arith, refl}
 use Rattle.std.specs.Prelude.{nat_eq}
 use Rattle.std.specs.Ordering.{nat_cmp}
 use Rattle.std.specs.Cmp.{unsigned_ties}
@@ -50,3 +50,26 @@ none_in q (x ∷ es) e = absurd (omega arith)
 
 pub none_at : {X : Type 0} (q : ℕ) (es : List (ℕ × X)) (o : Option X) → lookup (nat_eq q) es ≡ None → o ≡ table.get (table.from_entries {R = nat_cmp} es) q → None ≡ o
 none_at q es o e h = sym (h ∙ get_is_lookup q es ∙ e)
+
+pub none_distinct : IsDistinct nat_eq []
+unfolding IsDistinct
+none_distinct = search rules
+
+-- whoever leaves nobody, nobody is left
+neither : (b : Bool) → false ≡ cond b false false
+neither true = refl
+neither false = refl
+
+pub nobody_leaves : (k : ℕ) → set.from_list {R = nat_cmp} [] ≡ set.remove (set.from_list []) k
+nobody_leaves k = left [] [] k (λ q. neither (nat_eq k q))
+
+pub none_removed : {X : Type 0} (k : ℕ) → table.from_entries {X = X} {R = nat_cmp} [] ≡ table.remove (table.from_entries []) k
+none_removed k = removed [] [] k (λ q. no_more (nat_eq k q))
+  where
+    no_more : {X : Type 0} (b : Bool) → ◌≡◌ {A = Option X} None (cond b None None)
+    no_more true = refl
+    no_more false = refl
+
+-- a table that counts none has none
+pub none_got : {X : Type 0} (m : table.FinMap nat_cmp X) (q : ℕ) → table.len m ≡ 0 → None ≡ table.get m q
+none_got m q e = sym (ap (λ n. table.get n q) (table.empty_of_len m e) ∙ table.get-empty nat_cmp q)

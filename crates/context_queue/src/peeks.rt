@@ -9,22 +9,23 @@ use std::collections::HashSet;
 use std::marker::Model;
 use wave_base::{OutOfMemory, Ticket};
 
-/// The tickets that hold a context together, since they only look.
+/// The tickets that hold a context together, since they only look. They lie in a box, which is made once there is room for one, so that
+/// an entry stays small.
 #[derive(Drop)]
 pub struct Peeks {
-    tickets: HashSet<u32>,
+    alloc: Global,
+    tickets: Option<Box<HashSet<u32>>>,
 }
 
 impl Model for Peeks {
-    ghost use Rattle.std.specs.FinSet as set;
-    ghost use Rattle.std.specs.HashSet.{spare};
     ghost use Rattle.context_queue.specs.Lines.{Group, group_code};
+    ghost use Rattle.context_queue.specs.inner.Boxes.{group_of};
 
     ghost Value = { Group };
 
     ghost coded = { group_code };
 
-    ghost view = { λ a. record { tickets = set.from_list a.tickets.keys; room = spare a.tickets } };
+    ghost view = { λ a. group_of a.tickets };
 }
 
 impl Peeks {
@@ -33,7 +34,8 @@ impl Peeks {
         ensures { result.tickets ≡ set.empty }
     {
         Peeks {
-            tickets: HashSet::new(alloc),
+            alloc,
+            tickets: None,
         }
     }
 
@@ -41,14 +43,20 @@ impl Peeks {
     pub fn contains(&self, ticket: Ticket) -> bool
         ensures { result ≡ set.contains self.now.tickets ticket.0 }
     {
-        self.tickets.contains(&ticket.0)
+        match &self.tickets {
+            Some(tickets) => tickets.contains(&ticket.0),
+            None => false,
+        }
     }
 
     /// Whether nobody is among them.
     pub fn is_empty(&self) -> bool
         ensures { result ≡ is_nobody self.now.tickets }
     {
-        self.tickets.len() == 0
+        match &self.tickets {
+            Some(tickets) => tickets.len() == 0,
+            None => true,
+        }
     }
 
     /// Makes room for so many more.
@@ -57,7 +65,14 @@ impl Peeks {
         ensures room { self.old.room ≤ self.new.room }
         ensures tickets { self.new.tickets ≡ self.old.tickets }
     {
-        self.tickets.reserve(more)?;
+        match &mut self.tickets {
+            Some(tickets) => tickets.reserve(more)?,
+            None => {
+                let mut tickets = HashSet::new(self.alloc);
+                tickets.reserve(more)?;
+                self.tickets = Some(Box::new(self.alloc, tickets)?);
+            }
+        }
         Ok(())
     }
 
@@ -67,7 +82,12 @@ impl Peeks {
         ensures tickets { self.new.tickets ≡ set.insert self.old.tickets ticket.0 }
         ensures room { self.old.room ≤ self.new.room + 1 }
     {
-        let _ = self.tickets.insert(ticket.0);
+        match &mut self.tickets {
+            Some(tickets) => {
+                let _ = tickets.insert(ticket.0);
+            }
+            None => {}
+        }
     }
 
     /// A ticket leaves.
@@ -75,7 +95,12 @@ impl Peeks {
         ensures tickets { self.new.tickets ≡ set.remove self.old.tickets ticket.0 }
         ensures room { self.old.room ≤ self.new.room }
     {
-        let _ = self.tickets.remove(&ticket.0);
+        match &mut self.tickets {
+            Some(tickets) => {
+                let _ = tickets.remove(&ticket.0);
+            }
+            None => {}
+        }
     }
 
     /// All leave.
@@ -83,6 +108,9 @@ impl Peeks {
         ensures tickets { self.new.tickets ≡ set.empty }
         ensures room { self.old.room ≤ self.new.room }
     {
-        self.tickets.clear();
+        match &mut self.tickets {
+            Some(tickets) => tickets.clear(),
+            None => {}
+        }
     }
 }

@@ -1,7 +1,8 @@
 //! Those who wait at a context.
 
-ghost use Rattle.std.specs.Prelude.{◌≡◌, ◌≤◌, ◌<◌, ◌+◌, ◌^◌, OnOk, IfSome};
+ghost use Rattle.std.specs.Prelude.{◌≡◌, ◌≤◌, ◌<◌, ◌+◌, ◌^◌, [], IfOk, OnOk, IfSome};
 ghost use Rattle.std.specs.FinMap as map;
+ghost use Rattle.std.specs.HashMap.{spare};
 
 use std::alloc::Global;
 use std::collections::HashMap;
@@ -17,26 +18,27 @@ pub struct Claim {
     pub peek: bool,
 }
 
-/// The line of a context: the tickets that wait, each under its entry number.
+/// The line of a context: the tickets that wait, each under its entry number. They lie in a box, which is made once there is room for one,
+/// so that an entry stays small.
 #[derive(Drop)]
 pub struct Waiting {
-    claims: HashMap<u64, Claim>,
+    alloc: Global,
+    claims: Option<Box<HashMap<u64, Claim>>>,
 }
 
 impl Model for Waiting {
     ghost use Rattle.std.specs.Prelude.{◌≡◌, ◌^◌, None, nat_eq};
     ghost use Rattle.std.specs.Map.{lookup};
-    ghost use Rattle.std.specs.FinMap as map;
-    ghost use Rattle.std.specs.HashMap.{spare};
     ghost use Rattle.context_queue.specs.Lines.{Line, line_code};
+    ghost use Rattle.context_queue.specs.inner.Boxes.{entries_in, line_in};
 
     ghost Value = { Line };
 
     ghost coded = { line_code };
 
-    ghost view = { λ a. record { claims = map.from_entries a.claims.entries; room = spare a.claims } };
+    ghost view = { λ a. line_in a.claims };
 
-    ghost invariant = { λ a. lookup (nat_eq (2 ^ 64)) a.claims.entries ≡ None };
+    ghost invariant = { λ a. lookup (nat_eq (2 ^ 64)) (entries_in a.claims) ≡ None };
 }
 
 impl Waiting {
@@ -45,7 +47,8 @@ impl Waiting {
         ensures { result.claims ≡ map.empty }
     {
         Waiting {
-            claims: HashMap::new(alloc),
+            alloc,
+            claims: None,
         }
     }
 
@@ -53,15 +56,18 @@ impl Waiting {
     pub fn len(&self) -> usize
         ensures { result ≡ map.len self.now.claims }
     {
-        self.claims.len()
+        match &self.claims {
+            Some(claims) => claims.len(),
+            None => 0,
+        }
     }
 
     /// Who waits under an entry number.
     pub fn get(&self, number: u64) -> Option<Claim>
         ensures { result ≡ map.get self.now.claims number }
     {
-        match self.claims.get(&number) {
-            Some(claim) => Some(*claim),
+        match &self.claims {
+            Some(claims) => claims.get(&number).copied(),
             None => None,
         }
     }
@@ -71,7 +77,9 @@ impl Waiting {
         ensures claim { result ≡ map.get self.now.claims (number + 1) }
         ensures counted { IfSome result (λ _. number + 1 < 2 ^ 64) }
     {
-        if self.claims.is_empty() {
+        // none waits under 2^64
+        let _ = &self.claims;
+        if self.len() == 0 {
             return None;
         }
         match number.checked_add(1) {
@@ -87,9 +95,14 @@ impl Waiting {
         ensures room { self.old.room ≤ self.new.room }
         ensures claims { self.new.claims ≡ self.old.claims }
     {
-        self.claims.reserve(more)?;
-        // a number, which counts those that are there and for how many more there is room
-        let _places = self.claims.capacity();
+        match &mut self.claims {
+            Some(claims) => {
+                claims.reserve(more)?;
+                // a number, which counts those that are there and for how many more there is room
+                let _places = claims.capacity();
+            }
+            None => self.claims = Some(new_claims(self.alloc, more)?),
+        }
         Ok(())
     }
 
@@ -99,7 +112,12 @@ impl Waiting {
         ensures claims { self.new.claims ≡ map.insert self.old.claims number claim }
         ensures room { self.old.room ≤ self.new.room + 1 }
     {
-        let _ = self.claims.insert(number, claim);
+        match &mut self.claims {
+            Some(claims) => {
+                let _ = claims.insert(number, claim);
+            }
+            None => {}
+        }
     }
 
     /// The claim under an entry number leaves.
@@ -107,6 +125,21 @@ impl Waiting {
         ensures claims { self.new.claims ≡ map.remove self.old.claims number }
         ensures room { self.old.room ≤ self.new.room }
     {
-        let _ = self.claims.remove(&number);
+        match &mut self.claims {
+            Some(claims) => {
+                let _ = claims.remove(&number);
+            }
+            None => {}
+        }
     }
+}
+
+// A box for claims, with room for so many.
+fn new_claims(alloc: Global, more: usize) -> Result<Box<HashMap<u64, Claim>>, OutOfMemory>
+    ensures none { IfOk result (λ b. b.value.entries ≡ []) }
+    ensures room { IfOk result (λ b. more ≤ spare b.value) }
+{
+    let mut claims = HashMap::new(alloc);
+    claims.reserve(more)?;
+    Ok(Box::new(alloc, claims)?)
 }

@@ -2,19 +2,18 @@ use Rattle.std.proofs.Common.{◌≡◌, ◌+◌, ◌<◌, ℕ, refl, sym, ap, �
 use Rattle.std.specs.Prelude.{nat_eq}
 use Rattle.std.specs.Map.{lookup}
 use Rattle.std.specs.FinMap as table
-use Rattle.context_queue.proofs.QueueMaps.{none_in, none_at}
+use Rattle.context_queue.specs.inner.Boxes.{entries_in}
+use Rattle.context_queue.proofs.QueueMaps.{none_got, none_at}
 use Rattle.context_queue.proofs.waiting.Waiting.after.Goals as goal
 
-pub returns-then-is_empty-clause-claim : goal.returns-then-is_empty-clause-claim
-returns-then-is_empty-clause-claim c =
-    none_at (c.args.number + 1) c.self.inside.claims.entries (table.get c.args.self.now.claims (c.args.number + 1))
-    (none_in (c.args.number + 1) c.self.inside.claims.entries (c.if-is_empty.ensures.0 refl)) (ap (λ v. table.get v.claims (c.args.number + 1)) (sym c.self.view_is))
+pub returns-then-len-eq0-clause-claim : goal.returns-then-len-eq0-clause-claim
+returns-then-len-eq0-clause-claim c = none_got c.args.self.now.claims (c.args.number + 1) (sym c.len.ensures ∙ c.if-len-eq0.true)
 
 last : (n : ℕ) → n < 18446744073709551616 → (n + 1 < 18446744073709551616 → ⊥) → n + 1 ≡ 18446744073709551616
 last n h k = omega arith
 
 pub returns-in-None-clause-claim : goal.returns-in-None-clause-claim
 returns-in-None-clause-claim c =
+    let es = entries_in c.self.inside.claims in
     let top : c.args.number + 1 ≡ 18446744073709551616 = last c.args.number c.ranges.number.fits c.in-None.ensures in
-    none_at (c.args.number + 1) c.self.inside.claims.entries (table.get c.args.self.now.claims (c.args.number + 1))
-    (ap (λ n. lookup (nat_eq n) c.self.inside.claims.entries) top ∙ c.self.invariant) (ap (λ v. table.get v.claims (c.args.number + 1)) (sym c.self.view_is))
+    none_at (c.args.number + 1) es (table.get c.args.self.now.claims (c.args.number + 1)) (ap (λ n. lookup (nat_eq n) es) top ∙ c.self.invariant) (ap (λ v. table.get v.claims (c.args.number + 1)) (sym c.self.view_is))
