@@ -1,5 +1,5 @@
 -- Lists in two parts, and what an edit at the place between them makes of them.
-use Rattle.std.proofs.Common.{◌≡◌, ◌∙◌, ℕ, zero, suc, ◌+◌, ◌<◌, ◌≤◌, ◌==◌, ◌&&◌, Bool, true, false, List, [], ◌∷◌, ◌++◌, length, map, take, drop, Some, Result, refl, sym, ap, arith, true≢false}
+use Rattle.std.proofs.Common.{◌≡◌, ◌≢◌, ◌∙◌, ℕ, zero, suc, ◌+◌, ◌<◌, ◌≤◌, ◌==◌, ◌&&◌, Bool, true, false, List, [], ◌∷◌, ◌++◌, length, map, take, drop, Some, Result, refl, sym, ap, arith, true≢false}
 use Rattle.std.specs.Prelude.{slice_get, is_ok, IsOk, if◌then◌else◌}
 use Rattle.std.specs.List.{AllByRecursion, insert}
 use Rattle.wave_states.specs.Labels.{Act, Label, ticket_of}
@@ -113,6 +113,12 @@ module _ (kind t k : ℕ) where
   pub first_none : (ls : List Label) → AllByRecursion (λ (l : Label). is_slot l.act ≡ false) ls → first_is ls ≡ false
   first_none [] a = refl
   first_none (l ∷ ls) a = a.0
+
+  -- what stands there is among these
+  pub hit_some : (old : List Ready) (at : ℕ) (low own high : List Label) → at ≡ length low → map by_none old ≡ low ++ (own ++ high) → AllByRecursion (λ (l : Label). is_slot l.act ≡ false) high
+      → is_of kind t k (slice_get old at) ≡ true → own ≢ []
+  hit_some old at low [] high e all none hit = λ r. absurd (true≢false (sym hit ∙ ap (λ i. is_of kind t k (slice_get old i)) e ∙ at_place old low high all ∙ first_none high none))
+  hit_some old at low (l ∷ own) high e all none hit = λ r. cc
 
   -- what stands there is the only one, and there is none where another stands there
   pub cut_hit : (old : List Ready) (at : ℕ) (low own high : List Label) → at ≡ length low → map by_none old ≡ low ++ (own ++ high) → length own ≤ 1 → AllByRecursion (λ (l : Label). is_slot l.act ≡ false) high

@@ -154,6 +154,29 @@ module _ (kind t k : ℕ) (above : 1 ≤ kind) (under : kind ≤ 8) where
       by_test false = omega arith
   few_kinds (l ∷ (m ∷ x)) few = absurd (omega (arith, few))
 
+  -- the list in two parts, at the place of what a slot has of the kind
+  module _ (ms : List Label) (u x v : List Label) (a : Below t k u) (own : AllByRecursion (IsOwn t k) x) (b : From t (k + 1) v) (e : ms ≡ in_order (u ++ (x ++ v))) where
+    abbrev low_kind : List Label
+    low_kind = lower kind (u ++ (x ++ v)) ++ of_kind kind u
+
+    abbrev high_kind : List Label
+    high_kind = of_kind kind v ++ upper kind (u ++ (x ++ v))
+
+    parted_kind : Parted ms kind t k low_kind (of_kind kind x ++ high_kind)
+    parted_kind =
+        let ls = u ++ (x ++ v) in
+        let small : kind < 10 = omega (arith, under) in
+        let kinds_xv : of_kind kind (x ++ v) ++ upper kind ls ≡ of_kind kind x ++ high_kind = ap (λ r. r ++ upper kind ls) (kind_append kind x v) ∙ append_assoc (of_kind kind x) (of_kind kind v) (upper kind ls) in
+        let lows : AllByRecursion (Low kind t k) u = all_map (Low kind t k) (IsBelow t k) (λ l h same. h (inner_at l same)) u a in
+        let highs : AllByRecursion (High kind t k) (x ++ v) = all_append (High kind t k) x v
+        (all_map (High kind t k) (IsOwn t k) (λ l h same. record { ticket = let it = h.ticket in omega (arith, it); number = λ q. let is = h.number in omega (arith, is) }) x own)
+        (all_map (High kind t k) (IsFrom t (k + 1)) (λ l h same. record { ticket = (h (inner_at l same)).ticket; number = λ q. let up = (h (inner_at l same)).number q in omega (arith, up) }) v b) in
+        subst (λ r. Parted ms kind t k low_kind r) kinds_xv (subst (λ r. Parted r kind t k low_kind (of_kind kind (x ++ v) ++ upper kind ls)) (sym e)
+        (parted kind t k ls u (x ++ v) small (kind_append kind u (x ++ v)) lows highs))
+
+    none_high : AllByRecursion Elsewhere high_kind
+    none_high = all_append Elsewhere (of_kind kind v) (upper kind (u ++ (x ++ v))) (behind_elsewhere v b) (above_elsewhere (u ++ (x ++ v)))
+
   pub cuts_kind : (old new : List Ready)
       → ((low own high : List Label) → Parted (map by_none old) kind t k low (own ++ high) → length own ≤ 1 → AllByRecursion (λ (l : Label). is_slot kind t k l.act ≡ true) own → AllByRecursion (λ (l : Label). is_slot kind t k l.act ≡ false) high → map by_none new ≡ low ++ high)
       → CutsKind kind t k old new
@@ -163,20 +186,29 @@ module _ (kind t k : ℕ) (above : 1 ≤ kind) (under : kind ≤ 8) where
         let z = without kind x in
         let ls = u ++ (x ++ v) in
         let ms = u ++ (z ++ v) in
-        let low = lower kind ls ++ of_kind kind u in
-        let high = of_kind kind v ++ upper kind ls in
-        let kinds_xv : of_kind kind (x ++ v) ++ upper kind ls ≡ of_kind kind x ++ high = ap (λ r. r ++ upper kind ls) (kind_append kind x v) ∙ append_assoc (of_kind kind x) (of_kind kind v) (upper kind ls) in
-        let lows : AllByRecursion (Low kind t k) u = all_map (Low kind t k) (IsBelow t k) (λ l h same. h (inner_at l same)) u a in
-        let highs : AllByRecursion (High kind t k) (x ++ v) = all_append (High kind t k) x v
-        (all_map (High kind t k) (IsOwn t k) (λ l h same. record { ticket = let it = h.ticket in omega (arith, it); number = λ q. let is = h.number in omega (arith, is) }) x own)
-        (all_map (High kind t k) (IsFrom t (k + 1)) (λ l h same. record { ticket = (h (inner_at l same)).ticket; number = λ q. let up = (h (inner_at l same)).number q in omega (arith, up) }) v b) in
-        let p : Parted (map by_none old) kind t k low (of_kind kind x ++ high) =
-        subst (λ r. Parted (map by_none old) kind t k low r) kinds_xv (subst (λ r. Parted r kind t k low (of_kind kind (x ++ v) ++ upper kind ls)) (sym e)
-        (parted kind t k ls u (x ++ v) small (kind_append kind u (x ++ v)) lows highs)) in
         let others : (j : ℕ) → j ≢ kind → of_kind j ls ≡ of_kind j ms = λ j d. kind_append j u (x ++ v) ∙ ap (λ r. of_kind j u ++ r) (kind_append j x v ∙ ap (λ r. r ++ of_kind j v) (sym (other_kinds j kind x d)) ∙ sym (kind_append j z v)) ∙ sym (kind_append j u (z ++ v)) in
         let mine : of_kind kind ms ≡ of_kind kind u ++ of_kind kind v = kind_append kind u (z ++ v) ∙ ap (λ r. of_kind kind u ++ r) (kind_append kind z v ∙ ap (λ r. r ++ of_kind kind v) (but_kind kind x)) in
-        let none : AllByRecursion Elsewhere high = all_append Elsewhere (of_kind kind v) (upper kind ls) (behind_elsewhere v b) (above_elsewhere ls) in
-        cut low (of_kind kind x) high p (few_kinds x few) (own_here x own) none ∙ sym (one_kind_less kind ls ms u v small others mine);
+        cut (low_kind (map by_none old) u x v a own b e) (of_kind kind x) (high_kind (map by_none old) u x v a own b e) (parted_kind (map by_none old) u x v a own b e) (few_kinds x few) (own_here x own) (none_high (map by_none old) u x v a own b e)
+        ∙ sym (one_kind_less kind ls ms u v small others mine);
+  }
+
+  -- where what the slot has is of the kind, nothing else is left of it
+  one_kind : (x : List Label) → length x ≤ 1 → of_kind kind x ≢ [] → without kind x ≡ []
+  one_kind [] few some = refl
+  one_kind (l ∷ []) few some = by_test (kind_rank l.act == kind) refl
+    where
+      by_test : (b : Bool) → (kind_rank l.act == kind) ≡ b → cond (not (kind_rank l.act == kind)) (l ∷ []) [] ≡ []
+      by_test true e = ap (λ c. cond (not c) (l ∷ []) []) e
+      by_test false e = absurd (some (ap (λ c. cond c (l ∷ []) []) e))
+  one_kind (l ∷ (m ∷ x)) few some = absurd (omega (arith, few))
+
+  pub cuts_slot : (old new : List Ready) → CutsKind kind t k old new
+      → ((low own high : List Label) → Parted (map by_none old) kind t k low (own ++ high) → AllByRecursion (λ (l : Label). is_slot kind t k l.act ≡ false) high → own ≢ [])
+      → Cuts t k old new
+  cuts_slot old new c there = record {
+    parts = λ u x v a own few b e.
+        let some : of_kind kind x ≢ [] = there (low_kind (map by_none old) u x v a own b e) (of_kind kind x) (high_kind (map by_none old) u x v a own b e) (parted_kind (map by_none old) u x v a own b e) (none_high (map by_none old) u x v a own b e) in
+        c.parts u x v a own few b e ∙ ap (λ r. in_order (u ++ (r ++ v))) (one_kind x few some);
   }
 
 -- so many kinds are out

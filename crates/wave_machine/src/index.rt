@@ -1,7 +1,7 @@
 //! The list of what can be done: by kind, those of a kind by ticket, and those of a ticket by the number of their mail. A ticket and a
 //! number are a slot, which has one entry at most. A place is searched by halves.
 
-ghost use Rattle.std.specs.Prelude.{◌≡◌, ◌≤◌, ◌<◌, ◌+◌, ◌++◌, ◌∷◌, List, IsSome, drop, length, map, slice_get, vec_len, vec_capacity};
+ghost use Rattle.std.specs.Prelude.{◌≡◌, ◌≤◌, ◌<◌, ◌+◌, ◌++◌, ◌∷◌, List, IsFalse, IsSome, IsTrue, drop, length, map, slice_get, vec_len, vec_capacity};
 ghost use Rattle.std.specs.List.{AllByRecursion};
 ghost use Rattle.wave_labels.specs.Labels.{act_of};
 ghost use Rattle.wave_states.specs.Labels as theory;
@@ -107,14 +107,46 @@ pub(crate) fn put_some(index: &mut Vec<Ready>, label: Option<Label>)
     }
 }
 
-// Takes out what a slot asked for, where it did.
-pub(crate) fn cut_slot(index: &mut Vec<Ready>, ticket: Ticket, number: u32)
+// Takes out what a slot asked for, where it did: it has one kind at most, which is mostly the likely one.
+pub(crate) fn cut_slot(index: &mut Vec<Ready>, ticket: Ticket, number: u32, likely: u8)
+    ensures cuts { Cuts ticket.0 number index.old.items index.new.items }
+    ensures len { vec_len index.new ≤ vec_len index.old }
+    ensures capacity { vec_capacity index.new ≡ vec_capacity index.old }
+{
+    if !cut_likely(index, likely, ticket, number) {
+        cut_each(index, ticket, number);
+    }
+}
+
+// Takes out that of a slot, where its kind is this one. Answers whether it was.
+fn cut_likely(index: &mut Vec<Ready>, kind: u8, ticket: Ticket, number: u32) -> bool
+    ensures found { IsTrue result → Cuts ticket.0 number index.old.items index.new.items }
+    ensures same { IsFalse result → index.new.items ≡ index.old.items }
+    ensures len { vec_len index.new ≤ vec_len index.old }
+    ensures capacity { vec_capacity index.new ≡ vec_capacity index.old }
+{
+    is_kind_at(number, kind) && cut_kind(index, kind, ticket, number)
+}
+
+// Whether a number of a ticket may ask for a kind.
+fn is_kind_at(number: u32, kind: u8) -> bool
+    ensures { IsTrue result → (1 ≤ kind) × (kind ≤ 8) }
+{
+    if number == 0 {
+        kind == GRANT || kind == START
+    } else {
+        QUEUE <= kind && kind <= LAND
+    }
+}
+
+// Takes out what a slot asked for, kind by kind.
+fn cut_each(index: &mut Vec<Ready>, ticket: Ticket, number: u32)
     ensures cuts { Cuts ticket.0 number index.old.items index.new.items }
     ensures len { vec_len index.new ≤ vec_len index.old }
     ensures capacity { vec_capacity index.new ≡ vec_capacity index.old }
 {
     for kind in kinds_at(number) {
-        cut_kind(index, *kind, ticket, number);
+        let _ = cut_kind(index, *kind, ticket, number);
     }
 }
 
@@ -129,15 +161,20 @@ fn kinds_at(number: u32) -> &'static [u8]
     }
 }
 
-// Takes out that of a kind and a slot, where there is one.
-fn cut_kind(index: &mut Vec<Ready>, kind: u8, ticket: Ticket, number: u32)
+// Takes out that of a kind and a slot, where there is one. Answers whether there was.
+fn cut_kind(index: &mut Vec<Ready>, kind: u8, ticket: Ticket, number: u32) -> bool
     ensures cuts { 1 ≤ kind → kind ≤ 8 → CutsKind kind ticket.0 number index.old.items index.new.items }
+    ensures found { IsTrue result → 1 ≤ kind → kind ≤ 8 → Cuts ticket.0 number index.old.items index.new.items }
+    ensures same { IsFalse result → index.new.items ≡ index.old.items }
     ensures len { vec_len index.new ≤ vec_len index.old }
     ensures capacity { vec_capacity index.new ≡ vec_capacity index.old }
 {
     let at = place(index, kind, ticket, number);
     if is_at(index, at, kind, ticket, number) {
         let _ = index.remove(at);
+        true
+    } else {
+        false
     }
 }
 
@@ -161,8 +198,19 @@ pub(crate) fn cut_commit(index: &mut Vec<Ready>)
     ensures len { vec_len index.new ≤ vec_len index.old }
     ensures capacity { vec_capacity index.new ≡ vec_capacity index.old }
 {
-    let last = place(index, COMMIT, Ticket(0), 0);
+    let last = first_commit(index);
     index.truncate(last);
+}
+
+// How many come before the Commits.
+fn first_commit(index: &[Ready]) -> usize
+    ensures within { result ≤ length index.now }
+    ensures place { (low high : List theory.Label) → Parted (map by_none index.now) COMMIT 0 0 low high → result ≡ length low }
+{
+    match index.last() {
+        Some(last) if kind_rank(&last.act) < COMMIT => index.len(),
+        _ => place(index, COMMIT, Ticket(0), 0),
+    }
 }
 
 // Takes out the Admit that the head asked for, which is the first.

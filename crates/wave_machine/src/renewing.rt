@@ -22,7 +22,7 @@ use crate::asking::{admit_label, commit_label, mail_label, status_label};
 use crate::index::{act_number, cut_admit, cut_commit, cut_slot, is_at, put_some, ticket_of};
 use crate::listed::Seen;
 use crate::looks::{cell_at, line_at, path_of};
-use crate::order::ADMIT;
+use crate::order::{ADMIT, GRANT, kind_rank};
 use crate::ready::Ready;
 use event_cells::{Cell, Envelope};
 use wave_base::{Ticket, Worker};
@@ -62,27 +62,29 @@ fn relist_near(
     ensures capacity { vec_capacity index.new ≡ vec_capacity index.old }
 {
     let ticket = ticket_of(&label.act);
-    relist_own(engine, ticket, act_number(&label.act), index);
+    let likely = kind_rank(&label.act);
+    relist_own(engine, ticket, act_number(&label.act), likely, index);
     list_new(engine, ticket, seen.sent, index);
     relist_both(engine, other(seen.next, ticket), other(next, ticket), index);
 }
 
-// Lists anew what the status of a ticket asks for, and one of its mails; number 0 where there is none.
-fn relist_own(engine: &Engine, ticket: Ticket, number: u32, index: &mut Vec<Ready>)
+// Lists anew what the status of a ticket asks for, and one of its mails; number 0 where there is none. What they asked for is likely of
+// this kind.
+fn relist_own(engine: &Engine, ticket: Ticket, number: u32, likely: u8, index: &mut Vec<Ready>)
     requires listable { IsListable (kept_of engine.now) }
     requires room { vec_len index.old + 2 ≤ vec_capacity index.old }
     ensures relists { RelistsOwn (kept_of engine.now) ticket.0 number index.old.items index.new.items }
     ensures len { vec_len index.new ≤ vec_len index.old + 2 }
     ensures capacity { vec_capacity index.new ≡ vec_capacity index.old }
 {
-    relist_slot(engine, ticket, 0, index);
+    relist_slot(engine, ticket, 0, likely, index);
     if number != 0 {
-        relist_slot(engine, ticket, number, index);
+        relist_slot(engine, ticket, number, likely, index);
     }
 }
 
-// Lists anew what a number of a ticket asks for.
-fn relist_slot(engine: &Engine, ticket: Ticket, number: u32, index: &mut Vec<Ready>)
+// Lists anew what a number of a ticket asks for. What it asked for is likely of this kind.
+fn relist_slot(engine: &Engine, ticket: Ticket, number: u32, likely: u8, index: &mut Vec<Ready>)
     requires listable { IsListable (kept_of engine.now) }
     requires room { vec_len index.old < vec_capacity index.old }
     ensures relists { Relists (kept_of engine.now) ticket.0 number index.old.items index.new.items }
@@ -91,7 +93,7 @@ fn relist_slot(engine: &Engine, ticket: Ticket, number: u32, index: &mut Vec<Rea
 {
     match cell_at(engine, ticket) {
         Some(cell) => {
-            cut_slot(index, ticket, number);
+            cut_slot(index, ticket, number, likely);
             put_some(index, slot_label(engine, ticket, number, cell));
         }
         None => (),
@@ -121,7 +123,7 @@ fn relist_next(engine: &Engine, next: Option<Ticket>, index: &mut Vec<Ready>)
     ensures capacity { vec_capacity index.new ≡ vec_capacity index.old }
 {
     match next {
-        Some(ticket) => relist_slot(engine, ticket, 0, index),
+        Some(ticket) => relist_slot(engine, ticket, 0, GRANT, index),
         None => (),
     }
 }

@@ -1,7 +1,7 @@
 use Rattle.std.proofs.Common.{◌≡◌, ◌≤◌, take, vec_len, vec_capacity}
 use Rattle.wave_machine.specs.inner.Index.{kinds_at}
 use Rattle.wave_machine.proofs.Relisted.{Outs}
-use Rattle.wave_machine.proofs.index.cut_slot.Given as goal
+use Rattle.wave_machine.proofs.index.cut_each.Given as goal
 
 abbrev pub invariant-loop-kind : goal.invariant-loop-kind
 invariant-loop-kind l = record {

@@ -2,7 +2,7 @@ use Rattle.std.proofs.Common.{◌≡◌, ◌∙◌, ◌<◌, ◌≤◌, length, 
 use Rattle.std.proofs.lemmas.List.{take_all, take_more}
 use Rattle.wave_machine.specs.inner.Index.{CutsKind, kinds_at}
 use Rattle.wave_machine.proofs.Relisted.{Outs, kind_few, outs_first, outs_last, outs_more}
-use Rattle.wave_machine.proofs.index.cut_slot.Goals as goal
+use Rattle.wave_machine.proofs.index.cut_each.Goals as goal
 
 pub loop-kind-init : goal.loop-kind-init
 loop-kind-init c = record { outs = outs_first c.args.ticket.0 c.args.number c.args.index.now.items; len = omega arith; capacity = refl }
