@@ -1,9 +1,10 @@
 -- When a run is finished, by what the machine keeps.
-use Rattle.std.proofs.Common.{◌≡◌, ◌∙◌, ◌⊎◌, inl, inr, ℕ, zero, suc, ◌+◌, ◌-◌, ◌<◌, ◌≤◌, ◌&&◌, ◌==◌, Bool, true, false, List, [], ◌∷◌, ◌++◌, length, Option, Some, None, is_some, is_none, refl, sym, ap, subst, cond, true≢false, get_or, arith}
+use Rattle.std.proofs.Common.{◌≡◌, ◌∙◌, ◌⊎◌, inl, inr, ℕ, zero, suc, ◌+◌, ◌-◌, ◌<◌, ◌≤◌, ◌&&◌, ◌==◌, Bool, true, false, List, [], ◌∷◌, ◌++◌, length, Option, Some, None, is_some, is_none, refl, sym, ap, subst, cond, true≢false, get_or, drop, arith}
 use Rattle.std.specs.Prelude.{nat_lt, option_and_then, slice_get, All}
 use Rattle.std.proofs.lemmas.Bool.{cases_lt}
 use Rattle.std.proofs.lemmas.Bool.Decides.{nat_tests}
 use Rattle.std.proofs.lemmas.List.{length-append}
+use Rattle.std.proofs.lemmas.List.Elements.{All-nil, All-cons}
 use Rattle.std.proofs.lemmas.Grind.{common_steps}
 use Rattle.std.proofs.lemmas.Option.{slice_get-get_or, slice_get_within}
 use Rattle.wave_base.proofs.Lists.{all_at}
@@ -337,3 +338,9 @@ module _ (laws : Laws) (heads : Heads) (m : Kept) (start : Start) (s : TheState)
             let ended = (known.agree.ended (m.first + i) (event_as x.desk.event) x.event).0 (ap is_some (h.results.settled i y.0 y.1)) in
             and_true (is_over c.status) (is_empty c.outbox.mails) (is_over_by c.status (sym x.stands.status ∙ ended))
             (all_empty c.outbox.mails (λ k. none_carries (mail_in c.outbox.mails k) (x.desk.mails k) (x.stands.mails k) (sym (x.mails k) ∙ complete.no_mails (m.first + i) k)))
+
+-- where the first ones are so, all are where the rest is
+pub all_past : {X : Type 0} (P : X → Type 0) (n : ℕ) (xs : List X) → ((i : ℕ) (x : X) → i < n → slice_get xs i ≡ Some x → P x) → All P (drop n xs) → All P xs
+all_past P zero xs first rest = rest
+all_past P (suc n) [] first rest = All-nil P
+all_past P (suc n) (x ∷ xs) first rest = All-cons P x xs (first 0 x (omega arith) refl) (all_past P n xs (λ i y l at. first (suc i) y (omega (arith, l)) at) rest)

@@ -6,7 +6,7 @@ ghost use Rattle.script_fold.specs.Runs.{finished_of};
 ghost use Rattle.wave_states.specs.Runs as runs;
 ghost use Rattle.plan_actors.specs.Calls.{code_ran};
 ghost use Rattle.plan_actors.specs.PlanActors.{plan_actors};
-ghost use Rattle.wave_effects.specs.Ending.{AllDone, is_done};
+ghost use Rattle.wave_effects.specs.Ending.{AllDone, AreFirstDone, is_done};
 ghost use Rattle.wave_effects.specs.Kinds.{name_in};
 ghost use Rattle.wave_effects.specs.Machines.{Stands, TheState};
 
@@ -30,10 +30,18 @@ impl<'p> Engine<'p> {
     pub fn is_finished(&self) -> bool
         ensures { (start : Start) (s : TheState) → Stands (kept_of self.now) start s → IsTrue result ↔ runs.Finished (plan_actors self.now.plan.now.program) self.now.plan.now.workers s }
     {
+        self.is_finished_past(0)
+    }
+
+    /// The same, where the first events, so many, are known to be done: they are not looked at again.
+    pub fn is_finished_past(&self, done: usize) -> bool
+        requires { AreFirstDone done self.now.cells.items }
+        ensures { (start : Start) (s : TheState) → Stands (kept_of self.now) start s → IsTrue result ↔ runs.Finished (plan_actors self.now.plan.now.program) self.now.plan.now.workers s }
+    {
         states_are_known();
         heads_are_known();
         complete::<PlanActors>();
-        self.all_done()
+        self.all_done(done)
     }
 
     /// What a finished run gives. Where memory is wanting the engine comes back.
@@ -72,13 +80,14 @@ impl<'p> Engine<'p> {
     }
 
     // Whether all that was admitted is committed and over, and nothing more comes.
-    fn all_done(&self) -> bool
+    fn all_done(&self, done: usize) -> bool
+        requires { AreFirstDone done self.now.cells.items }
         ensures { IsTrue result ↔ AllDone (kept_of self.now) }
     {
         self.settled.len() == self.cells.len()
             && all_idle(&self.hands)
             && self.head.upcoming().is_none()
-            && all_over(&self.cells)
+            && all_over_past(&self.cells, done)
     }
 }
 
@@ -94,6 +103,14 @@ fn all_over(cells: &[Cell<Actor>]) -> bool
     ensures { IsTrue result ↔ All (λ c. is_done c ≡ true) cells.now }
 {
     cells.iter().all(|cell| cell.is_done())
+}
+
+// The same, where the first events, so many, are known to be done.
+fn all_over_past(cells: &[Cell<Actor>], done: usize) -> bool
+    requires { AreFirstDone done cells.now }
+    ensures { IsTrue result ↔ All (λ c. is_done c ≡ true) cells.now }
+{
+    all_over(&cells[done..])
 }
 
 // Copies of the results.

@@ -108,6 +108,14 @@ impl<'p> Listed<'p> {
         }
     }
 
+    // Whether nothing can be done any more, and no segment is out.
+    pub(crate) fn is_finished(&self) -> bool
+        requires { IsListed self.now }
+        ensures { (start : start.Start) (s : TheState) → Stands (kept_of self.now.engine) start s → IsTrue result ↔ runs.Finished (plan_actors (kept_of self.now.engine).plan.program) (kept_of self.now.engine).plan.workers s }
+    {
+        self.engine.is_finished_past(self.done)
+    }
+
     // Makes what a label needs.
     pub(crate) fn prepare(&mut self, alloc: Global, label: &Label) -> Result<Prepared, OutOfMemory>
         requires enabled { IsEnabled (kept_of self.old.engine) (label_of label.now) }

@@ -198,7 +198,7 @@ impl<'p> Machine<'p> {
     pub fn is_finished(&self) -> bool
         ensures { (start : Start) (s : TheState) → Stands self.now.kept start s → IsTrue result ↔ runs.Finished (plan_actors self.now.kept.plan.program) self.now.kept.plan.workers s }
     {
-        self.listed.engine.is_finished()
+        self.listed.is_finished()
     }
 
     /// What a finished run gives. After want of memory the machine comes back as it was.

@@ -8,4 +8,4 @@ use Rattle.wave_machine.specs.Prepared.{Shown}
 use Rattle.wave_machine.proofs.machine.Machine.is_finished.Goals as goal
 
 pub returns : goal.returns
-returns c = subst (λ (z : Shown). (start : Start) (s : TheState) → Stands z.kept start s → IsTrue c.finished.result ↔ Finished (plan_actors z.kept.plan.program) z.kept.plan.workers s) c.self.view_is c.finished.ensures
+returns c = subst (λ (z : Shown). (start : Start) (s : TheState) → Stands z.kept start s → IsTrue c.is_finished.result ↔ Finished (plan_actors z.kept.plan.program) z.kept.plan.workers s) c.self.view_is c.is_finished.ensures
