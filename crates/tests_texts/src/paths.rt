@@ -2,6 +2,7 @@
 
 ghost use Rattle.wave_base.specs.Shapes.{IsShape};
 
+use crate::same::is_text;
 use crate::shapes::hall_shape;
 use path_text::{
     ClassNames, PathError, parse_path, put_shot, resolve_steps, write_path, written_steps,
@@ -33,7 +34,7 @@ fn reads_what_it_writes(rt: HostRuntime) -> Result<(), Fail> {
         key: -7,
     });
     let text = write_path(alloc, &shape, &hall)?;
-    assert!(rt; text.as_slice() == b"/Hall[-7]".as_slice());
+    is_text(&rt, text.as_slice(), b"/Hall[-7]");
     parses(&rt, alloc, &shape, b"/Hall[-007]", Ok(hall));
     parses(&rt, alloc, &shape, b"/", Ok(Path::root()));
     parses(&rt, alloc, &shape, b"/Hall[]", Err(PathError::Syntax));
@@ -57,7 +58,7 @@ fn writes_a_context(rt: HostRuntime) -> Result<(), Fail> {
     };
     let mut out = Vec::new(alloc);
     put_shot(alloc, &mut out, &shape, &shot)?;
-    assert!(rt; out.as_slice() == b"at /".as_slice());
+    is_text(&rt, out.as_slice(), b"at /");
     Ok(())
 }
 
