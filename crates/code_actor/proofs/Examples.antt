@@ -21,7 +21,7 @@ use Rattle.service_verify.specs.Steps.{act_move, one_step}
 use Rattle.service_verify.proofs.Samples.{market}
 use Rattle.wave_states.specs.Alone.{Alone, after_segments, first_alone}
 use Rattle.wave_states.specs.Begins.{first_begin, start_state}
-use Rattle.wave_states.specs.Canonical.{enabled}
+use Rattle.wave_states.specs.Canonical.{enabled_labels}
 use Rattle.wave_states.specs.Runs.{run, drive, seed}
 use Rattle.wave_states.specs.Steps as machine
 use Rattle.wave_states.specs.States.{State}
@@ -88,5 +88,5 @@ abbrev results : Option (State Event Fields EventResult Call) → Option (ℕ ×
 results o = option_map (λ s. (s.head.done, (s.cells 1).result, (s.cells 2).result)) o
 
 both_done : results driven ≡ Some (2, Some sold, Some (record { outcome = Replied (int 15); messages = []; created = [] }))
-unfolding machine.step run enabled drive segment steps enough weight one_step act_move first_box takes_of gives_of apply_row operators read_marks peeks is_quiet_function judged_function judged_from visit point_after effect_of levels_above
+unfolding machine.step run enabled_labels drive segment steps enough weight one_step act_move first_box takes_of gives_of apply_row operators read_marks peeks is_quiet_function judged_function judged_from visit point_after effect_of levels_above
 both_done = refl

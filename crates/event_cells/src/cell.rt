@@ -9,7 +9,7 @@ ghost use Rattle.wave_base.specs.declared.value.Value.{Value};
 ghost use Rattle.wave_states.specs.States as theory;
 ghost use Rattle.wave_states.specs.States.{hold_at};
 ghost use Rattle.wave_states.specs.Desks.{Desk, send, give_up, kept_of, not_at};
-ghost use Rattle.wave_states.specs.Steps.{ended};
+ghost use Rattle.wave_states.specs.Steps.{after_end};
 
 use crate::held::{Held, Hold};
 use crate::outbox::{Envelope, Outbox};
@@ -240,7 +240,7 @@ impl<A: Drop> Cell<A> {
     pub fn end(&mut self)
         requires room { length self.old.held.holds ≤ self.old.outbox.room }
         requires numbers { self.old.outbox.sent + length self.old.held.holds < 2 ^ 32 }
-        ensures desk { (d : Desk A (List Value)) → StandsFor self.old d → StandsFor self.new (ended d) }
+        ensures desk { (d : Desk A (List Value)) → StandsFor self.old d → StandsFor self.new (after_end d) }
         ensures few_mails { length self.new.outbox.mails ≤ length self.old.outbox.mails + length self.old.held.holds }
         ensures actor { self.new.actor ≡ None }
         ensures status { self.new.status ≡ Status.Ended }

@@ -12,7 +12,7 @@ use Rattle.wave_labels.specs.Labels.{label_of}
 use Rattle.wave_states.specs.Begins.{start_state}
 use Rattle.wave_states.specs.Labels as theory
 use Rattle.wave_states.specs.Owners.{IsOwner}
-use Rattle.wave_states.specs.Canonical.{enabled}
+use Rattle.wave_states.specs.Canonical.{enabled_labels}
 use Rattle.wave_states.specs.Runs.{Finished, run}
 use Rattle.wave_states.specs.Steps.{step}
 use Rattle.wave_theory.proofs.Basics.{none_not, options, path_is, some_same}
@@ -159,7 +159,7 @@ module _ (plan : Plan) where
         let finished : r'.finished ≡ r.finished = bool_same r'.finished r.finished (λ e. h.finished.1 (ends.0 e), λ e. ends.1 (h.finished.0 e)) in
         let glance : r'.glance ≡ r.glance = glance_same h.state one r.glance r'.glance h.glance (subst (λ s. IsGlance s r'.glance) state k.glance) in
         λ i. Ok (record { steps = (k.steps ∙ sym h.steps) i; finished = finished i; shown = shown i; glance = glance i })
-    replay_is_one r h one (Err (Refused step label enabled)) k = absurd (not_both r h step label enabled k)
+    replay_is_one r h one (Err (Refused step label enabled_labels)) k = absurd (not_both r h step label enabled_labels k)
     replay_is_one r h one (Err (OutOfMemory e)) k = absurd k
 
     pub refusal_is_one : ((a b : Label) → label_of a ≡ label_of b → a ≡ b) → (i : ℕ) (l : Label) (ls : List Label) → IsRefusal plan journal i l ls → (other : Result Replayed ReplayError) → IsOutcome plan journal show other → other ≡ Err (Refused i l ls)
@@ -168,7 +168,7 @@ module _ (plan : Plan) where
         let same = same_stop first h.state k.state h.before k.before l l' h.after k.after (sym h.parts ∙ k.parts) h.run h.refused k.run k.refused in
         let place : i' ≡ i = k.place ∙ ap (λ (bs : List Label). length bs + 1) same.before ∙ sym h.place in
         let state : k.state ≡ h.state = leads_to_one h.before h.state k.state h.run (subst (λ bs. LeadsTo plan bs k.state) same.before k.run) in
-        let listed : ls' ≡ ls = labels_same tell ls' ls (k.listed ∙ ap (enabled (plan_actors plan.program) plan.workers plan.script.hosts) state ∙ sym h.listed) in
+        let listed : ls' ≡ ls = labels_same tell ls' ls (k.listed ∙ ap (enabled_labels (plan_actors plan.program) plan.workers plan.script.hosts) state ∙ sym h.listed) in
         λ j. Err (Refused (place j) (same.label j) (listed j))
     refusal_is_one tell i l ls h (Err (OutOfMemory e)) k = absurd k
 

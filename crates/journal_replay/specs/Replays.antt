@@ -41,7 +41,7 @@ module _ (plan : Plan) where
     pub state : TheState
     pub run : LeadsTo before state
     pub refused : steps.step (plan_actors plan.program) plan.workers state (label_of label) ≡ None
-    pub listed : map label_of enabled ≡ canonical.enabled (plan_actors plan.program) plan.workers plan.script.hosts state
+    pub listed : map label_of enabled ≡ canonical.enabled_labels (plan_actors plan.program) plan.workers plan.script.hosts state
 
   abbrev pub IsOutcome : List Label → ℕ → Result Replayed ReplayError → Type 0
   IsOutcome journal show (Ok r) = IsReplay journal show r

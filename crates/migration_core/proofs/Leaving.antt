@@ -13,7 +13,7 @@ use Rattle.context_queue.specs.Entries.{StandsFor}
 use Rattle.host_map.specs.declared.store.Mark.{Mark}
 use Rattle.host_map.specs.Stores.{Stores, Matches, IsAt, mark_of}
 use Rattle.wave_states.specs.States as theory
-use Rattle.wave_states.specs.Steps.{departed, landed}
+use Rattle.wave_states.specs.Steps.{column_left, column_joined}
 
 apart : (q k : Path) → q ≢ k → eq_by_cmp path_cmp q k ≡ false
 apart q k h = by_test (path_eq q k) refl
@@ -43,14 +43,14 @@ set_here f host x = ap (λ b. if b then x else f host) (nat_eq_equiv.refl host)
 
 module _ (new : Stores) (p : Path) (c : theory.Column (List Value)) (host : ℕ) where
   -- nothing is there but a mark
-  pub gone_away : (m : Mark) → table.get new.store p ≡ None → table.get new.gone p ≡ Some m → IsAt new p (departed c host m.to.0 m.number) host
+  pub gone_away : (m : Mark) → table.get new.store p ≡ None → table.get new.gone p ≡ Some m → IsAt new p (column_left c host m.to.0 m.number) host
   gone_away m e g = record {
     entry = subst (λ o. Matches o (theory.set nat_eq c.store host None host)) (sym e) (subst (Matches None) (sym (set_here c.store host None)) tt);
     mark = set_here c.gone host (Some (mark_of m)) ∙ ap (option_map mark_of) (sym g);
   }
 
   -- an entry is there and no mark
-  pub come_here : (e : Entry) (en : theory.Entry (List Value)) → StandsFor e en → table.get new.store p ≡ Some e → table.get new.gone p ≡ None → IsAt new p (landed c host en) host
+  pub come_here : (e : Entry) (en : theory.Entry (List Value)) → StandsFor e en → table.get new.store p ≡ Some e → table.get new.gone p ≡ None → IsAt new p (column_joined c host en) host
   come_here e en h s g = record {
     entry = subst (λ o. Matches o (theory.set nat_eq c.store host (Some en) host)) (sym s) (subst (Matches (Some e)) (sym (set_here c.store host (Some en))) h);
     mark = set_here c.gone host None ∙ ap (option_map mark_of) (sym g);

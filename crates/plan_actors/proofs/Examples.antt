@@ -33,7 +33,7 @@ use Rattle.service_verify.proofs.Samples.{class, function, one_int}
 use Rattle.wave_states.specs.Actors.{Actors, Left, Down, Back, Over}
 use Rattle.wave_states.specs.Alone.{run_alone, fold_alone, places_alone, after_segments}
 use Rattle.wave_states.specs.Begins.{Begin, begin_of, start_state}
-use Rattle.wave_states.specs.Canonical.{enabled}
+use Rattle.wave_states.specs.Canonical.{enabled_labels}
 use Rattle.wave_states.specs.Movers as mover
 use Rattle.wave_states.specs.Movers.{Mover, MoveEnd, advance_on}
 use Rattle.wave_states.specs.Runs.{run, drive, seed}
@@ -132,11 +132,11 @@ abbrev all_results : State Actor Fields EventResult Line → List (Option EventR
 all_results s = (s.cells 8).result ∷ (s.cells 9).result ∷ (s.cells 10).result ∷ (s.cells 11).result ∷ (s.cells 12).result ∷ []
 
 driven_results : option_map all_results driven ≡ Some (map (λ r. Some r) results)
-unfolding machine.step run enabled drive segment steps enough weight one_step act_move first_box takes_of gives_of apply_row operators read_marks peeks is_quiet_function judged_function judged_from points.visit point_after effect_of levels_above
+unfolding machine.step run enabled_labels drive segment steps enough weight one_step act_move first_box takes_of gives_of apply_row operators read_marks peeks is_quiet_function judged_function judged_from points.visit point_after effect_of levels_above
 driven_results = refl
 
 driven_jobs : option_map (λ s. s.head) driven ≡ Some (record { known = jobs; later = []; done = 5 })
-unfolding machine.step run enabled drive segment steps enough weight one_step act_move first_box takes_of gives_of apply_row operators read_marks peeks is_quiet_function judged_function judged_from points.visit point_after effect_of levels_above
+unfolding machine.step run enabled_labels drive segment steps enough weight one_step act_move first_box takes_of gives_of apply_row operators read_marks peeks is_quiet_function judged_function judged_from points.visit point_after effect_of levels_above
 driven_jobs = refl
 
 -- ---- wrong actors

@@ -7,7 +7,7 @@ use Rattle.wave_states.specs.Actors.{Actors}
 use Rattle.wave_states.specs.States.{State, Claim, Entry, Event, Hand, Mail, Ready}
 use Rattle.wave_states.specs.Labels.{Act, Label, Admit, Queue, Grant, Start, Stop, Free, Pass, Land, Commit, ticket_of, path_of}
 use Rattle.wave_states.specs.Labels
-use Rattle.wave_states.specs.Steps.{Bench, Part, step, step_by, act_bench, with_hand, with_bench, part_of, queue, grant, visit, start, free, pass, land, only_if, next_ticket, admitted, committed}
+use Rattle.wave_states.specs.Steps.{Bench, Part, step, step_by, act_bench, with_hand, with_bench, part_of, queue, grant, visit, start, free, pass, land, only_if, next_ticket, after_admit, after_commit}
 use Rattle.wave_theory.proofs.Basics.{none_not, some_same, then_some, map_some, only_some, if_some, and_first, and_second, number_is, set_at}
 use Rattle.wave_theory.proofs.Folds.{with_done_done}
 use Rattle.wave_theory.proofs.Opened.{visits, grants, starts, frees, lands, passes, queues}
@@ -95,7 +95,7 @@ module _ {A F R J : Type 0} (sys : Actors A F R J) where
     pub known : (a : Act) → step_by sys s w host a ≡ Some v → Known a
     known (Admit t) e =
         let i = idle_of (s.hands w) _ v e in
-        let r = then_some (λ j. only_if ((host == 0) && (t == next_ticket s)) (admitted sys s t j)) (slice_get s.head.known s.admitted) v i.1 in
+        let r = then_some (λ j. only_if ((host == 0) && (t == next_ticket s)) (after_admit sys s t j)) (slice_get s.head.known s.admitted) v i.1 in
         let o = only_some ((host == 0) && (t == next_ticket s)) _ v r.2 in (
           By_head r.0 r.1 (number_is t (next_ticket s) (and_second (host == 0) _ o.0)),
           record { hand = λ h f. absurd (none_not (sym i.0 ∙ ap (λ (u : State A F R J). u.hands w) o.1 ∙ f)); done = upto _ _ (ap (λ (u : State A F R J). u.head.done) (sym o.1)) },
@@ -105,7 +105,7 @@ module _ {A F R J : Type 0} (sys : Actors A F R J) where
         upto a c e = omega (arith, e)
     known (Commit t) e =
         let i = idle_of (s.hands w) _ v e in
-        let r = then_some (λ r. only_if ((host == 0) && (t == suc (s.before + s.head.done))) (committed sys s r)) (s.cells t).result v i.1 in
+        let r = then_some (λ r. only_if ((host == 0) && (t == suc (s.before + s.head.done))) (after_commit sys s r)) (s.cells t).result v i.1 in
         let o = only_some ((host == 0) && (t == suc (s.before + s.head.done))) _ v r.2 in (
           By_result r.0 r.1 (number_is t (suc (s.before + s.head.done)) (and_second (host == 0) _ o.0)),
           record { hand = λ h f. absurd (none_not (sym i.0 ∙ ap (λ (u : State A F R J). u.hands w) o.1 ∙ f)); done = more _ _ (ap (λ (u : State A F R J). u.head.done) (sym o.1) ∙ with_done_done s.head (sys.created r.0)) },

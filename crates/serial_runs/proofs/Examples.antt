@@ -4,7 +4,7 @@ use Rattle.std.proofs.Common.{◌≡◌, ◌≤◌, ℕ, nat_lt, true, Option, S
 use Rattle.std.specs.Prelude.{if◌then◌else◌, ◌++◌, Bool, false, is_some, map, nat_eq, option_map, option_and_then}
 use Rattle.wave_base.specs.Kids.{child_at}
 use Rattle.wave_states.specs.Begins.{start_state}
-use Rattle.wave_states.specs.Canonical.{enabled}
+use Rattle.wave_states.specs.Canonical.{enabled_labels}
 use Rattle.wave_states.specs.Labels.{Act, Label, Admit, Queue, Grant, Start, Stop, Free, Commit, ticket_of}
 use Rattle.wave_states.specs.Runs.{run, drive, newest, oldest, Rule}
 use Rattle.wave_states.specs.States.{Entry, Event, Mark, State}
@@ -45,12 +45,12 @@ stretches (l ∷ ls) = without (ticket_of l.act) (stretches ls)
 
 -- by the oldest rule one ticket comes after the other
 oldest_is_serial : stretches (driven oldest) ≡ 1 ∷ 2 ∷ 3 ∷ 4 ∷ []
-unfolding step run enabled drive
+unfolding step run enabled_labels drive
 oldest_is_serial = refl
 
 -- by the newest one they go on in turn
 newest_is_not : nat_lt 4 (length (stretches (driven newest))) ≡ true
-unfolding step run enabled drive
+unfolding step run enabled_labels drive
 newest_is_not = refl
 
 -- how many labels, and how many Passes among them
@@ -59,7 +59,7 @@ counts ls = (length ls, passes ls)
 
 -- The serial drive passes two Enters to the hall, which has moved by then; the other one passes none, so it has two labels fewer.
 no_reordering : map counts (driven oldest ∷ driven newest ∷ []) ≡ (50, 2) ∷ (48, 0) ∷ []
-unfolding step run enabled drive
+unfolding step run enabled_labels drive
 no_reordering = refl
 
 -- what they end in: of the hall its marks, by host, its moves and how many it served; and how many numbers the root gave for it
@@ -72,7 +72,7 @@ seen s = (
 
 ends_in_one : map (λ ls. option_map seen (run trips 4 (start_state begin moves) ls)) (driven oldest ∷ driven newest ∷ [])
     ≡ Some (None ∷ Some (0, 2) ∷ [], Some (2, 4), Some (4, 0)) ∷ Some (None ∷ Some (0, 2) ∷ [], Some (2, 4), Some (4, 0)) ∷ []
-unfolding step run enabled drive
+unfolding step run enabled_labels drive
 ends_in_one = refl
 
 -- ---- neighbours

@@ -7,7 +7,7 @@ use Rattle.wave_base.specs.Fold.{Head, Progress}
 use Rattle.wave_states.specs.States.{State, Cell, Event, Hand, Mail, Letter, Enter, Visit, Back, Release, Transfer, Status, Ready, Ended}
 use Rattle.wave_states.specs.Labels.{Act, Label, Stop, Free, Land, ticket_of, is_stop}
 use Rattle.wave_states.specs.Steps.{step}
-use Rattle.wave_states.specs.Canonical.{enabled}
+use Rattle.wave_states.specs.Canonical.{enabled_labels}
 use Rattle.wave_states.specs.Runs.{IsDrive, least, oldest}
 use Rattle.wave_states.specs.Kinds.{Kind}
 use Rattle.wave_states.specs.Owes.{Owes, IsBegin}
@@ -85,7 +85,7 @@ module _ {A F R J : Type 0} (kind : Kind A F R J) (owes : Owes kind) (b : Begin 
   at n = fold_alone kind.system b batches n
 
   abbrev list : State A F R J → List Label
-  list s = enabled kind.system workers kind.hosts s
+  list s = enabled_labels kind.system workers kind.hosts s
 
   -- nothing is left of the tickets before c, and nothing was begun of those behind it
   record Only (s : State A F R J) (k : Good s) (c : ℕ) : Type 0 where

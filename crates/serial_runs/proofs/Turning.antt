@@ -9,7 +9,7 @@ use Rattle.wave_states.specs.Actors.{Actors}
 use Rattle.wave_states.specs.States.{Cell, Column, Hand, State}
 use Rattle.wave_states.specs.Labels.{Act, Label, Admit, Commit, Queue, Grant, Start, Stop, Free, Pass, Land, is_local, is_start, is_stop, path_of, ticket_of}
 use Rattle.wave_states.specs.Labels
-use Rattle.wave_states.specs.Steps.{Bench, Part, act_bench, admit, admitted, calm, commit, committed, next_ticket, only_if, part_of, step, with_bench, with_hand}
+use Rattle.wave_states.specs.Steps.{Bench, Part, act_bench, admit, after_admit, calm, commit, after_commit, next_ticket, only_if, part_of, step, with_bench, with_hand}
 use Rattle.wave_states.specs.Runs.{run}
 use Rattle.wave_theory.specs.Independent.{Both, Independent}
 use Rattle.wave_theory.specs.Reads.{Changes, Reads, SameElse, SameFor}
@@ -198,18 +198,18 @@ module _ {A F R J : Type 0} (sys : Actors A F R J) (workers : ℕ) where
     job : J
     job_is : slice_get s.head.known s.admitted ≡ Some job
     holds : ((host == 0) && (t == next_ticket s)) ≡ true
-    gives : admitted sys s t job ≡ v
+    gives : after_admit sys s t job ≡ v
 
   admits : (s v : State A F R J) (w host t : ℕ) → step sys workers s (record { worker = w; host = host; act = Admit t }) ≡ Some v → Admits s v w host t
   unfolding step
   admits s v w host t e =
       let o = if_some (nat_lt w workers) (if is_none (s.hands w) then admit sys s host t else None) v e in
       let i = if_some (is_none (s.hands w)) (admit sys s host t) v o.1 in
-      let j = then_some (λ j. only_if ((host == 0) && (t == next_ticket s)) (admitted sys s t j)) (slice_get s.head.known s.admitted) v i.1 in
-      let k = only_some ((host == 0) && (t == next_ticket s)) (admitted sys s t j.0) v j.2 in
+      let j = then_some (λ j. only_if ((host == 0) && (t == next_ticket s)) (after_admit sys s t j)) (slice_get s.head.known s.admitted) v i.1 in
+      let k = only_some ((host == 0) && (t == next_ticket s)) (after_admit sys s t j.0) v j.2 in
       record { fits = o.0; idle = i.0; job = j.0; job_is = j.1; holds = k.0; gives = k.1 }
 
-  admits_again : (s : State A F R J) (w host t : ℕ) (j : J) → nat_lt w workers ≡ true → is_none (s.hands w) ≡ true → slice_get s.head.known s.admitted ≡ Some j → ((host == 0) && (t == next_ticket s)) ≡ true → step sys workers s (record { worker = w; host = host; act = Admit t }) ≡ Some (admitted sys s t j)
+  admits_again : (s : State A F R J) (w host t : ℕ) (j : J) → nat_lt w workers ≡ true → is_none (s.hands w) ≡ true → slice_get s.head.known s.admitted ≡ Some j → ((host == 0) && (t == next_ticket s)) ≡ true → step sys workers s (record { worker = w; host = host; act = Admit t }) ≡ Some (after_admit sys s t j)
   unfolding step
   admits_again s w host t j f i e h = rw f (rw i (rw e (rw h refl)))
 
@@ -219,18 +219,18 @@ module _ {A F R J : Type 0} (sys : Actors A F R J) (workers : ℕ) where
     result : R
     result_is : (s.cells t).result ≡ Some result
     holds : ((host == 0) && (t == suc (s.before + s.head.done))) ≡ true
-    gives : committed sys s result ≡ v
+    gives : after_commit sys s result ≡ v
 
   commits : (s v : State A F R J) (w host t : ℕ) → step sys workers s (record { worker = w; host = host; act = Commit t }) ≡ Some v → Commits s v w host t
   unfolding step
   commits s v w host t e =
       let o = if_some (nat_lt w workers) (if is_none (s.hands w) then commit sys s host t else None) v e in
       let i = if_some (is_none (s.hands w)) (commit sys s host t) v o.1 in
-      let j = then_some (λ r. only_if ((host == 0) && (t == suc (s.before + s.head.done))) (committed sys s r)) (s.cells t).result v i.1 in
-      let k = only_some ((host == 0) && (t == suc (s.before + s.head.done))) (committed sys s j.0) v j.2 in
+      let j = then_some (λ r. only_if ((host == 0) && (t == suc (s.before + s.head.done))) (after_commit sys s r)) (s.cells t).result v i.1 in
+      let k = only_some ((host == 0) && (t == suc (s.before + s.head.done))) (after_commit sys s j.0) v j.2 in
       record { fits = o.0; idle = i.0; result = j.0; result_is = j.1; holds = k.0; gives = k.1 }
 
-  commits_again : (s : State A F R J) (w host t : ℕ) (r : R) → nat_lt w workers ≡ true → is_none (s.hands w) ≡ true → (s.cells t).result ≡ Some r → ((host == 0) && (t == suc (s.before + s.head.done))) ≡ true → step sys workers s (record { worker = w; host = host; act = Commit t }) ≡ Some (committed sys s r)
+  commits_again : (s : State A F R J) (w host t : ℕ) (r : R) → nat_lt w workers ≡ true → is_none (s.hands w) ≡ true → (s.cells t).result ≡ Some r → ((host == 0) && (t == suc (s.before + s.head.done))) ≡ true → step sys workers s (record { worker = w; host = host; act = Commit t }) ≡ Some (after_commit sys s r)
   unfolding step
   commits_again s w host t r f i e h = rw f (rw i (rw e (rw h refl)))
 
@@ -289,11 +289,11 @@ module _ {A F R J : Type 0} (sys : Actors A F R J) (workers : ℕ) where
       let x = admits s s₁ w h t e in
       let y = commits s s₂ w' h' t' e' in
       record {
-        state = committed sys (admitted sys s t x.job) y.result;
-        there = subst (λ z. step sys workers z (record { worker = w'; host = h'; act = Commit t' }) ≡ Some (committed sys (admitted sys s t x.job) y.result)) x.gives
-            (commits_again (admitted sys s t x.job) w' h' t' y.result y.fits y.idle (ap (λ (c : Cell A F R). c.result) (set_apart nat_eq s.cells t t' _ number_is d) ∙ y.result_is) y.holds);
-        here = subst (λ z. step sys workers z (record { worker = w; host = h; act = Admit t }) ≡ Some (committed sys (admitted sys s t x.job) y.result)) y.gives
-            (admits_again (committed sys s y.result) w h t x.job x.fits x.idle (done_keeps s.head (sys.created y.result) s.admitted x.job x.job_is) x.holds);
+        state = after_commit sys (after_admit sys s t x.job) y.result;
+        there = subst (λ z. step sys workers z (record { worker = w'; host = h'; act = Commit t' }) ≡ Some (after_commit sys (after_admit sys s t x.job) y.result)) x.gives
+            (commits_again (after_admit sys s t x.job) w' h' t' y.result y.fits y.idle (ap (λ (c : Cell A F R). c.result) (set_apart nat_eq s.cells t t' _ number_is d) ∙ y.result_is) y.holds);
+        here = subst (λ z. step sys workers z (record { worker = w; host = h; act = Admit t }) ≡ Some (after_commit sys (after_admit sys s t x.job) y.result)) y.gives
+            (admits_again (after_commit sys s y.result) w h t x.job x.fits x.idle (done_keeps s.head (sys.created y.result) s.admitted x.job x.job_is) x.holds);
       }
 
   swapped : (s s₁ s₂ : State A F R J) (l l' : Label) → Both sys workers s s₁ s₂ l l' → Both sys workers s s₂ s₁ l' l

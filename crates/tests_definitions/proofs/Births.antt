@@ -5,7 +5,7 @@ use Rattle.wave_base.specs.declared.children.Child.{Child}
 use Rattle.wave_base.specs.declared.path.Path.{Path}
 use Rattle.wave_base.specs.declared.path.Step.{Step}
 use Rattle.wave_states.specs.Begins.{Begin, child_at_start, entry_at_start, column_at_start, start_state}
-use Rattle.wave_states.specs.Canonical.{enabled}
+use Rattle.wave_states.specs.Canonical.{enabled_labels}
 use Rattle.wave_states.specs.Labels.{Label}
 use Rattle.wave_states.specs.Runs.{run, drive, oldest}
 use Rattle.wave_states.specs.States.{State, Entry, Record}
@@ -97,7 +97,7 @@ abbrev after : State Trip ℕ Told Trip → Option Told × List (Option Seen)
 after s = ((s.cells 8).result, map (λ h. option_map seen ((s.columns (hall ∷ stall ∷ [])).store h)) (0 ∷ 1 ∷ 2 ∷ []))
 
 goes_down : option_map after (run trips 1 first_state labels) ≡ Some (Some (Sum 61), Some (record { fields = 61; births = []; served = 1; moves = 0 }) ∷ None ∷ None ∷ [])
-unfolding step run enabled drive
+unfolding step run enabled_labels drive
 goes_down = refl
 
 -- A child that is new in the run is born where its parent is: a second stall in the hall, on host 1.
@@ -112,5 +112,5 @@ hall_after s = option_map seen ((s.columns (hall ∷ [])).store 1)
 
 -- the stall that was there has no number given, and the new one its first; its birth is the hall's host
 born_in_run : option_map hall_after (run trips 1 second_state (drive trips 1 3 oldest 40 0 second_state)) ≡ Some (Some (record { fields = 51; births = (0, 0) ∷ (1, 1) ∷ []; served = 1; moves = 0 }))
-unfolding step run enabled drive
+unfolding step run enabled_labels drive
 born_in_run = refl

@@ -3,7 +3,7 @@ use Rattle.std.proofs.Common.{◌≡◌, ℕ, Bool, true, false, List, [], ◌�
 use Rattle.std.specs.Prelude.{map, nat_lt, if◌then◌else◌, option_map}
 use Rattle.wave_base.specs.declared.path.Path.{Path}
 use Rattle.wave_states.specs.Begins.{start_state}
-use Rattle.wave_states.specs.Canonical.{enabled}
+use Rattle.wave_states.specs.Canonical.{enabled_labels}
 use Rattle.wave_states.specs.Labels.{Act, Label, Admit, Queue, Grant, Start, Stop, Free}
 use Rattle.wave_states.specs.Runs.{run, drive, first_of, Rule}
 use Rattle.wave_states.specs.States.{State, Claim, Entry, Hand}
@@ -129,10 +129,10 @@ adds = start_state begin ((trip (hall ∷ []) Adds ∷ trip (hall ∷ []) Adds �
 
 -- two at once of those that look; a machine that shares nothing has one
 two_at_once : most looks (drive trips 2 1 first_label 40 0 looks) ≡ 2
-unfolding step run enabled drive
+unfolding step run enabled_labels drive
 two_at_once = refl
 
 -- one at a time of those that add; one that shares with all has two
 one_at_a_time : most adds (drive trips 2 1 first_label 40 0 adds) ≡ 1
-unfolding step run enabled drive
+unfolding step run enabled_labels drive
 one_at_a_time = refl

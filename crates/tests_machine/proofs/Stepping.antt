@@ -4,7 +4,7 @@ use Rattle.std.specs.Prelude.{slice_get}
 use Rattle.wave_base.specs.declared.pause.Pause.{Pause}
 use Rattle.wave_labels.specs.declared.label.Label as program
 use Rattle.wave_labels.specs.Labels.{label_of}
-use Rattle.wave_states.specs.Canonical.{enabled}
+use Rattle.wave_states.specs.Canonical.{enabled_labels}
 use Rattle.wave_states.specs.Labels.{Label}
 use Rattle.wave_states.specs.States.{Hand}
 use Rattle.wave_states.specs.Steps.{step}
@@ -21,12 +21,12 @@ use Rattle.wave_effects.specs.Machines.{IsEnabled, Kept, Takes, IsStood}
 use Rattle.wave_effects.specs.Running.{IsInHand, IsStopping, Leases}
 
 -- the first of the canonical list can be taken
-pub first_enabled : (m : Kept) (ls : List program.Label) (l : program.Label) (on : IsStood m) → map label_of ls ≡ enabled (plan_actors m.plan.program) m.plan.workers m.plan.script.hosts on.state → slice_get ls 0 ≡ Some l
+pub first_enabled : (m : Kept) (ls : List program.Label) (l : program.Label) (on : IsStood m) → map label_of ls ≡ enabled_labels (plan_actors m.plan.program) m.plan.workers m.plan.script.hosts on.state → slice_get ls 0 ≡ Some l
     → Listed (plan_kind m.plan.program m.plan.script.hosts) m.plan.workers (begin_in m.plan on.start) m.plan.script.batches on.state → IsEnabled m (label_of l)
 first_enabled m [] l on same at listed = absurd (none_not at)
 first_enabled m (x ∷ ls) l on same at listed =
     let is : label_of x ≡ label_of l = ap label_of (some_same x l at) in
-    let there : IsIn (enabled (plan_actors m.plan.program) m.plan.workers m.plan.script.hosts on.state) (label_of l) = subst (λ (xs : List Label). IsIn xs (label_of l)) same (inl is) in
+    let there : IsIn (enabled_labels (plan_actors m.plan.program) m.plan.workers m.plan.script.hosts on.state) (label_of l) = subst (λ (xs : List Label). IsIn xs (label_of l)) same (inl is) in
     let next = option_some (step (plan_actors m.plan.program) m.plan.workers on.state (label_of l)) ((listed (label_of l)).0 there).0 in
     record { start = on.start; state = on.state; next = next.0; stands = on.stands; enabled = next.1 }
 

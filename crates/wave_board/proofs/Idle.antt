@@ -12,7 +12,7 @@ use Rattle.wave_states.specs.Begins.{start_state}
 use Rattle.wave_states.specs.Labels.{Act, Label, Admit, Queue, Grant, Visit, Start, Stop, Free, Pass, Land, Commit, is_start, is_stop}
 use Rattle.wave_states.specs.Runs.{run}
 use Rattle.wave_states.specs.States.{Hand, State}
-use Rattle.wave_states.specs.Steps.{Bench, act_bench, admit, admitted, commit, committed, next_ticket, only_if, part_of, step}
+use Rattle.wave_states.specs.Steps.{Bench, act_bench, admit, after_admit, commit, after_commit, next_ticket, only_if, part_of, step}
 use Rattle.wave_theory.specs.Hands.{HandsStay}
 use Rattle.wave_theory.proofs.Basics.{bool_cases, if_some, none_not, not_same, number_cases, number_self, only_some, options, set_at, some_same, then_some}
 use Rattle.wave_theory.proofs.Opened.{starts}
@@ -62,15 +62,15 @@ module _ {A F R J : Type 0} (sys : Actors A F R J) (workers : ℕ) (s v : State 
   unfolding step
   turns w host (Admit t) e =
       let i = (if_some (is_none (s.hands w)) (admit sys s host t) v (if_some (nat_lt w workers) _ v e).1).1 in
-      let j = then_some (λ j. only_if ((host == 0) && (t == next_ticket s)) (admitted sys s t j)) (slice_get s.head.known s.admitted) v i in
-      let x : full (s.hands w) ≡ full (v.hands w) = ap (λ (z : State A F R J). full (z.hands w)) (only_some _ (admitted sys s t j.0) v j.2).1 in
+      let j = then_some (λ j. only_if ((host == 0) && (t == next_ticket s)) (after_admit sys s t j)) (slice_get s.head.known s.admitted) v i in
+      let x : full (s.hands w) ≡ full (v.hands w) = ap (λ (z : State A F R J). full (z.hands w)) (only_some _ (after_admit sys s t j.0) v j.2).1 in
       let d : one (is_start (Admit t)) ≡ 0 = refl in
       let u : one (is_stop (Admit t)) ≡ 0 = refl in
       omega (arith, x, d, u)
   turns w host (Commit t) e =
       let i = (if_some (is_none (s.hands w)) (commit sys s host t) v (if_some (nat_lt w workers) _ v e).1).1 in
-      let r = then_some (λ r. only_if ((host == 0) && (t == suc (s.before + s.head.done))) (committed sys s r)) (s.cells t).result v i in
-      let x : full (s.hands w) ≡ full (v.hands w) = ap (λ (z : State A F R J). full (z.hands w)) (only_some _ (committed sys s r.0) v r.2).1 in
+      let r = then_some (λ r. only_if ((host == 0) && (t == suc (s.before + s.head.done))) (after_commit sys s r)) (s.cells t).result v i in
+      let x : full (s.hands w) ≡ full (v.hands w) = ap (λ (z : State A F R J). full (z.hands w)) (only_some _ (after_commit sys s r.0) v r.2).1 in
       let d : one (is_start (Commit t)) ≡ 0 = refl in
       let u : one (is_stop (Commit t)) ≡ 0 = refl in
       omega (arith, x, d, u)

@@ -12,7 +12,7 @@ use Rattle.wave_states.specs.Begins.{start_state}
 use Rattle.wave_states.specs.Labels.{Act, Label, Admit, Queue, Grant, Visit, Start, Stop, Free, Pass, Land, Commit, is_local}
 use Rattle.wave_states.specs.Runs.{Finished, run}
 use Rattle.wave_states.specs.States.{State}
-use Rattle.wave_states.specs.Steps.{admit, admitted, commit, committed, next_ticket, only_if, step}
+use Rattle.wave_states.specs.Steps.{admit, after_admit, commit, after_commit, next_ticket, only_if, step}
 use Rattle.wave_theory.specs.Hands.{HandsStayOver}
 use Rattle.wave_theory.proofs.Basics.{clash, if_some, none_not, number_self, only_some, some_same, then_some}
 use Rattle.wave_theory.proofs.Folds.{with_done_done}
@@ -72,13 +72,13 @@ module _ {A F R J : Type 0} (sys : Actors A F R J) (workers : ℕ) where
   unfolding step
   done_grows s v w host (Admit t) e =
       let i = (if_some (is_none (s.hands w)) (admit sys s host t) v (if_some (nat_lt w workers) _ v e).1).1 in
-      let j = then_some (λ j. only_if ((host == 0) && (t == next_ticket s)) (admitted sys s t j)) (slice_get s.head.known s.admitted) v i in
-      let x : s.head.done ≡ v.head.done = ap (λ (z : State A F R J). z.head.done) (only_some _ (admitted sys s t j.0) v j.2).1 in
+      let j = then_some (λ j. only_if ((host == 0) && (t == next_ticket s)) (after_admit sys s t j)) (slice_get s.head.known s.admitted) v i in
+      let x : s.head.done ≡ v.head.done = ap (λ (z : State A F R J). z.head.done) (only_some _ (after_admit sys s t j.0) v j.2).1 in
       omega (arith, x)
   done_grows s v w host (Commit t) e =
       let i = (if_some (is_none (s.hands w)) (commit sys s host t) v (if_some (nat_lt w workers) _ v e).1).1 in
-      let r = then_some (λ r. only_if ((host == 0) && (t == suc (s.before + s.head.done))) (committed sys s r)) (s.cells t).result v i in
-      let x : (with_done s.head (sys.created r.0)).done ≡ v.head.done = ap (λ (z : State A F R J). z.head.done) (only_some _ (committed sys s r.0) v r.2).1 in
+      let r = then_some (λ r. only_if ((host == 0) && (t == suc (s.before + s.head.done))) (after_commit sys s r)) (s.cells t).result v i in
+      let x : (with_done s.head (sys.created r.0)).done ≡ v.head.done = ap (λ (z : State A F R J). z.head.done) (only_some _ (after_commit sys s r.0) v r.2).1 in
       let y : (with_done s.head (sys.created r.0)).done ≡ suc s.head.done = with_done_done s.head (sys.created r.0) in
       omega (arith, x, y)
   done_grows s v w host (Queue t k p) e = kept_by s v w host (Queue t k p) refl e

@@ -9,7 +9,7 @@ use Rattle.wave_base.specs.declared.script.Line.{Line}
 use Rattle.wave_base.specs.declared.start.Start.{Start}
 use Rattle.service_code.specs.declared.program.Program.{Program}
 use Rattle.wave_states.specs.Actors.{Actors}
-use Rattle.wave_states.specs.Canonical.{enabled}
+use Rattle.wave_states.specs.Canonical.{enabled_labels}
 use Rattle.wave_states.specs.Labels.{Act, Label, Admit, Queue, Grant, Visit, Start as Begin, Stop, Free, Pass, Land, Commit}
 use Rattle.wave_states.specs.Runs.{IsDrive, Rule, run}
 use Rattle.wave_states.specs.States.{Hand, State}
@@ -51,24 +51,24 @@ use Rattle.wave_effects.proofs.Stopped.{stopped_by}
 -- ---- one label more
 
 module _ {A F R J : Type 0} (sys : Actors A F R J) (workers hosts : ℕ) (rule : Rule A F R J) where
-  pub drive_more : (ls : List Label) (x : ℕ) (s : State A F R J) (y : ℕ) (v : State A F R J) (l : Label) (u : State A F R J) (z : ℕ) → DrivesTo sys workers hosts rule x s ls y v → rule y v (enabled sys workers hosts v) ≡ (z, Some l) → step sys workers v l ≡ Some u
+  pub drive_more : (ls : List Label) (x : ℕ) (s : State A F R J) (y : ℕ) (v : State A F R J) (l : Label) (u : State A F R J) (z : ℕ) → DrivesTo sys workers hosts rule x s ls y v → rule y v (enabled_labels sys workers hosts v) ≡ (z, Some l) → step sys workers v l ≡ Some u
       → DrivesTo sys workers hosts rule x s (ls ++ l ∷ []) z u
   drive_more [] x s y v l u z d picks takes =
-      let pick : rule x s (enabled sys workers hosts s) ≡ (z, Some l) = (λ i. rule (d.0 i) (d.1 i) (enabled sys workers hosts (d.1 i))) ∙ picks in
+      let pick : rule x s (enabled_labels sys workers hosts s) ≡ (z, Some l) = (λ i. rule (d.0 i) (d.1 i) (enabled_labels sys workers hosts (d.1 i))) ∙ picks in
       (ap (λ (r : ℕ × Option Label). r.1) pick, u, ap (λ w. step sys workers w l) d.1 ∙ takes, (ap (λ (r : ℕ × Option Label). r.0) pick, refl))
-  drive_more (m ∷ ls) x s y v l u z d picks takes = (d.0, d.1, d.2, drive_more ls (rule x s (enabled sys workers hosts s)).0 d.1 y v l u z d.3 picks takes)
+  drive_more (m ∷ ls) x s y v l u z d picks takes = (d.0, d.1, d.2, drive_more ls (rule x s (enabled_labels sys workers hosts s)).0 d.1 y v l u z d.3 picks takes)
 
   -- it is the rule's drive where nothing is left
-  pub drive_done : (ls : List Label) (x : ℕ) (s : State A F R J) (y : ℕ) (v : State A F R J) → DrivesTo sys workers hosts rule x s ls y v → enabled sys workers hosts v ≡ [] → IsDrive sys workers hosts rule x s ls
+  pub drive_done : (ls : List Label) (x : ℕ) (s : State A F R J) (y : ℕ) (v : State A F R J) → DrivesTo sys workers hosts rule x s ls y v → enabled_labels sys workers hosts v ≡ [] → IsDrive sys workers hosts rule x s ls
   unfolding IsDrive
-  drive_done [] x s y v d none = ap (enabled sys workers hosts) d.1 ∙ none
-  drive_done (m ∷ ls) x s y v d none = (d.0, d.1, d.2, drive_done ls (rule x s (enabled sys workers hosts s)).0 d.1 y v d.3 none)
+  drive_done [] x s y v d none = ap (enabled_labels sys workers hosts) d.1 ∙ none
+  drive_done (m ∷ ls) x s y v d none = (d.0, d.1, d.2, drive_done ls (rule x s (enabled_labels sys workers hosts s)).0 d.1 y v d.3 none)
 
   -- and a run
   pub drive_run : (ls : List Label) (x : ℕ) (s : State A F R J) (y : ℕ) (v : State A F R J) → DrivesTo sys workers hosts rule x s ls y v → run sys workers s ls ≡ Some v
   unfolding run
   drive_run [] x s y v d = ap Some d.1
-  drive_run (m ∷ ls) x s y v d = ap (option_and_then (λ w. run sys workers w ls)) d.2 ∙ drive_run ls (rule x s (enabled sys workers hosts s)).0 d.1 y v d.3
+  drive_run (m ∷ ls) x s y v d = ap (option_and_then (λ w. run sys workers w ls)) d.2 ∙ drive_run ls (rule x s (enabled_labels sys workers hosts s)).0 d.1 y v d.3
 
 -- ---- hands
 
@@ -273,7 +273,7 @@ module _ (r : Rule actors.Actor Fields EventResult Line) (picks : Picks r) (x : 
 
 module _ (all : RulesPick actors.Actor Fields EventResult Line) (m : Kept) (ends : List (Option End)) (start : Start) (r : PickRule) (x z : ℕ) (s : TheState) (under : IsUnder m ends start s) (drives : CanDrive m.plan start s) where
   abbrev listed_now : List Label
-  listed_now = enabled (plan_actors m.plan.program) m.plan.workers m.plan.script.hosts s
+  listed_now = enabled_labels (plan_actors m.plan.program) m.plan.workers m.plan.script.hosts s
 
   -- what is picked can be taken
   pub next_state : (l : Label) → rule_of r x s listed_now ≡ (z, Some l) → (u : TheState) × (step (plan_actors m.plan.program) m.plan.workers s l ≡ Some u)
@@ -287,7 +287,7 @@ module _ (all : RulesPick actors.Actor Fields EventResult Line) (m : Kept) (ends
 
 -- one label more of a drive
 pub driving_more : (all : RulesPick actors.Actor Fields EventResult Line) (m m' : Kept) (plan : Plan) (start : Start) (r : PickRule) (x z : ℕ) (ls : List Label) (ends ends' : List (Option End)) (l : Label) (d : IsDriving m plan start r x ls ends)
-    → CanDrive m.plan start d.state → rule_of r x d.state (enabled (plan_actors m.plan.program) m.plan.workers m.plan.script.hosts d.state) ≡ (z, Some l) → Leads m ends l m' ends' → m'.plan ≡ m.plan
+    → CanDrive m.plan start d.state → rule_of r x d.state (enabled_labels (plan_actors m.plan.program) m.plan.workers m.plan.script.hosts d.state) ≡ (z, Some l) → Leads m ends l m' ends' → m'.plan ≡ m.plan
     → IsDriving m' plan start r z (ls ++ l ∷ []) ends'
 driving_more all m m' plan start r x z ls ends ends' l d can picks leads same =
     let u = next_state all m ends start r x z d.state d.under can l picks in
@@ -296,6 +296,6 @@ driving_more all m m' plan start r x z ls ends ends' l d can picks leads same =
       state = u.0;
       under = leads start d.state u.0 d.under u.1;
       drives = drive_more (plan_actors plan.program) plan.workers plan.script.hosts (rule_of r) ls (rule_number r) (first_state plan start) x d.state l u.0 z d.drives
-          (subst (λ (p : Plan). rule_of r x d.state (enabled (plan_actors p.program) p.workers p.script.hosts d.state) ≡ (z, Some l)) d.same picks)
+          (subst (λ (p : Plan). rule_of r x d.state (enabled_labels (plan_actors p.program) p.workers p.script.hosts d.state) ≡ (z, Some l)) d.same picks)
           (subst (λ (p : Plan). step (plan_actors p.program) p.workers d.state l ≡ Some u.0) d.same u.1);
     }

@@ -11,13 +11,13 @@ use Rattle.wave_base.specs.Paths.{path_eq}
 use Rattle.event_cells.specs.declared.cell.JobKind.{JobKind}
 use Rattle.head_tickets.specs.Heads.{next_line}
 use Rattle.wave_states.specs.Actors.{Actors}
-use Rattle.wave_states.specs.Canonical.{enabled}
+use Rattle.wave_states.specs.Canonical.{enabled_labels}
 use Rattle.wave_theory.specs.Listed.{IsIn, Listed}
 use Rattle.plan_actors.specs.Plans.{begin_in}
 use Rattle.wave_states.specs.Labels.{Act, Label, Admit, Queue, Grant, Visit, Start as Begin, Stop, Free, Pass, Land, Commit, ticket_of, path_of, is_local}
 use Rattle.wave_states.specs.Runs.{first_of, job_is, movers, or_else}
 use Rattle.wave_states.specs.States.{Cell, Column, Entry, Hand}
-use Rattle.wave_states.specs.Steps.{act_bench, admit, admitted, commit, committed, next_ticket, only_if, step, stop, with_hand}
+use Rattle.wave_states.specs.Steps.{act_bench, admit, after_admit, commit, after_commit, next_ticket, only_if, step, stop, with_hand}
 use Rattle.wave_theory.proofs.Basics.{and_second, if_some, none_not, number_is, only_some, some_not, then_some}
 use Rattle.wave_theory.proofs.Frames.{option_some}
 use Rattle.code_actor.specs.CodeActors.{Fields}
@@ -130,15 +130,15 @@ module _ (laws : Laws) (m : Kept) (start : Start) (s : TheState) (stands : Stand
       let v = option_some (step sys m.plan.workers s (record { worker = w; host = host; act = Admit t })) can in
       let i = if_some (nat_lt w m.plan.workers) _ v.0 v.1 in
       let j = if_some (is_none (s.hands w)) (admit sys s host t) v.0 i.1 in
-      let r = then_some (λ job. only_if ((host == 0) && (t == next_ticket s)) (admitted sys s t job)) (slice_get s.head.known s.admitted) v.0 j.1 in
-      let o = only_some ((host == 0) && (t == next_ticket s)) (admitted sys s t r.0) v.0 r.2 in
+      let r = then_some (λ job. only_if ((host == 0) && (t == next_ticket s)) (after_admit sys s t job)) (slice_get s.head.known s.admitted) v.0 j.1 in
+      let o = only_some ((host == 0) && (t == next_ticket s)) (after_admit sys s t r.0) v.0 r.2 in
       let e : t ≡ next_ticket s = number_is t (next_ticket s) (and_second (host == 0) (t == next_ticket s) o.0) in
       omega (arith, e)
   within_next w host (Commit t) can =
       let v = option_some (step sys m.plan.workers s (record { worker = w; host = host; act = Commit t })) can in
       let i = if_some (nat_lt w m.plan.workers) _ v.0 v.1 in
       let j = if_some (is_none (s.hands w)) (commit sys s host t) v.0 i.1 in
-      let r = then_some (λ x. only_if ((host == 0) && (t == suc (s.before + s.head.done))) (committed sys s x)) (s.cells t).result v.0 j.1 in
+      let r = then_some (λ x. only_if ((host == 0) && (t == suc (s.before + s.head.done))) (after_commit sys s x)) (s.cells t).result v.0 j.1 in
       has_some t (λ e. none_not (sym (ap (λ (c : Cell actors.Actor Fields EventResult). c.result) e) ∙ r.1))
   within_next w host (Queue t k p) can = local_within (record { worker = w; host = host; act = Queue t k p }) refl can
   within_next w host (Grant t p) can = local_within (record { worker = w; host = host; act = Grant t p }) refl can
@@ -172,6 +172,6 @@ module _ (laws : Laws) (m : Kept) (start : Start) (s : TheState) (stands : Stand
           same (Some x) = refl
 
   -- so the rule that picks moves first picks what is kept as one
-  pub movers_is : Listed (plan_kind m.plan.program m.plan.script.hosts) m.plan.workers (begin_in m.plan start) m.plan.script.batches s → (ls : List Label) → ls ≡ enabled sys m.plan.workers m.plan.script.hosts s → (x : ℕ) → movers line_is_move x s ls ≡ (x, first_move m ls)
+  pub movers_is : Listed (plan_kind m.plan.program m.plan.script.hosts) m.plan.workers (begin_in m.plan start) m.plan.script.batches s → (ls : List Label) → ls ≡ enabled_labels sys m.plan.workers m.plan.script.hosts s → (x : ℕ) → movers line_is_move x s ls ≡ (x, first_move m ls)
   movers_is listed ls same x = ap (λ fs. (x, or_else (first_of fs) (first_of ls))) (filter_on (λ (l : Label). job_is line_is_move (slice_get s.head.known (ticket_of l.act - suc s.before))) (λ l. moves_in m (ticket_of l.act)) ls
       (λ l i. sym (moves_is (ticket_of l.act) (within_next l.worker l.host l.act ((listed l).0 (subst (λ r. IsIn r l) same i)).0))))

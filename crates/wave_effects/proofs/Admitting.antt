@@ -13,7 +13,7 @@ use Rattle.event_cells.specs.declared.cell.JobKind.{JobKind}
 use Rattle.event_cells.specs.Cells.{first_desk}
 use Rattle.wave_states.specs.States as theory
 use Rattle.wave_states.specs.States.{Enter, set}
-use Rattle.wave_states.specs.Steps.{admitted, new_cell}
+use Rattle.wave_states.specs.Steps.{after_admit, new_cell}
 use Rattle.wave_theory.proofs.Basics.{number_is, set_apart, set_at}
 use Rattle.plan_actors.specs.PlanActors as actors
 use Rattle.plan_actors.specs.PlanActors.{plan_actors}
@@ -67,7 +67,7 @@ new_is program line t c made =
 
 module _ (m : Kept) (s : TheState) (h : Shows m s) (t : ℕ) (line : Line) (c : Cell Actor) (head : Heading) (kind : JobKind) (at : t ≡ m.first + m.head.admitted) (fresh : (s.cells t).result ≡ None) (takes : TakesLine m.head head line) (named : kind ≡ job_kind line) (made : IsMade m.plan.program line t c) where
   abbrev pub after : TheState
-  after = admitted (plan_actors m.plan.program) s t line
+  after = after_admit (plan_actors m.plan.program) s t line
 
   there : (u : ℕ) → (t ≡ u → ⊥) → s.cells u ≡ set nat_eq s.cells t (new_cell (plan_actors m.plan.program) (actors.actor_of m.plan.program line t) t) u
   there u n = sym (set_apart nat_eq s.cells t u _ number_is n)

@@ -18,7 +18,7 @@ use Rattle.wave_theory.specs.Agree.{Agree}
 use Rattle.wave_states.specs.States as theory
 use Rattle.wave_states.specs.States.{Ask, Enter, Hand, set}
 use Rattle.wave_states.specs.Labels.{Visit, Free, Queue, Grant, Pass, Land}
-use Rattle.wave_states.specs.Steps.{in_line, landed, let_in, may_join, only_if, others, part_of, route, step, with_holders, entry_for}
+use Rattle.wave_states.specs.Steps.{in_line, column_joined, let_in, may_join, only_if, others, part_of, route, step, with_holders, entry_for}
 use Rattle.wave_theory.proofs.Opened.{visits, frees, queues, grants, passes, lands}
 use Rattle.code_actor.specs.CodeActors.{Fields}
 use Rattle.plan_actors.specs.PlanActors as actors
@@ -143,7 +143,7 @@ module _ (m : Kept) (b : Begin Fields) (s s' : TheState) (t k : ℕ) (p : Path) 
 
     -- Land: the mail is taken, and the context joins the store.
     pub arrived : step (plan_actors m.plan.program) m.plan.workers s (record { worker = w; host = host; act = Land t k p }) ≡ Some s' → TakesMail c c' k
-        → ((en : theory.Entry Fields) → (s.cells t).mails k ≡ Some (record { host = host; path = p; letter = theory.Transfer en }) → IsAt st' p (landed (s.columns p) host (with_holders en [])) host)
+        → ((en : theory.Entry Fields) → (s.cells t).mails k ≡ Some (record { host = host; path = p; letter = theory.Transfer en }) → IsAt st' p (column_joined (s.columns p) host (with_holders en [])) host)
         → ((q : Path) → q ≢ p → table.get st'.store q ≡ table.get st.store q) → ((q : Path) → q ≢ p → table.get st'.gone q ≡ table.get st.gone q) → Shows (with_store (with_cell m i c') host st') s'
     arrived taking takes lands_it stores marks =
         let sys = plan_actors m.plan.program in

@@ -26,7 +26,7 @@ use Rattle.wave_states.specs.Labels.{Act, Label, Admit, Commit, Queue, Grant, Vi
 use Rattle.wave_states.specs.Runs.{Finished}
 use Rattle.wave_states.specs.States as theory
 use Rattle.wave_states.specs.States.{Hand, Event}
-use Rattle.wave_states.specs.Steps.{act_bench, admitted, only_if, part_of, step}
+use Rattle.wave_states.specs.Steps.{act_bench, after_admit, only_if, part_of, step}
 use Rattle.wave_theory.specs.Complete.{IsComplete}
 use Rattle.wave_theory.proofs.Basics.{clash, none_not, number_self}
 use Rattle.wave_theory.proofs.Opened.{frees, grants, lands, passes, queues, starts, visits}
@@ -278,22 +278,22 @@ module _ (laws : Laws) (heads : Heads) (m : Kept) (start : Start) (s : TheState)
     abbrev next_admit : Label
     next_admit = record { worker = 0; host = 0; act = Admit (suc (s.before + s.admitted)) }
 
-    can_admit : (j : Line) → slice_get s.head.known s.admitted ≡ Some j → step (plan_actors m.plan.program) m.plan.workers s next_admit ≡ Some (admitted (plan_actors m.plan.program) s (suc (s.before + s.admitted)) j)
+    can_admit : (j : Line) → slice_get s.head.known s.admitted ≡ Some j → step (plan_actors m.plan.program) m.plan.workers s next_admit ≡ Some (after_admit (plan_actors m.plan.program) s (suc (s.before + s.admitted)) j)
     unfolding step
     can_admit j e =
         let t = suc (s.before + s.admitted) in
         let sys = plan_actors m.plan.program in
         let some : nat_lt 0 m.plan.workers ≡ true = first_worker m.plan.workers stands.fits.some_worker in
-        ap (λ b. cond b (cond (is_none (s.hands 0)) (option_and_then (λ i. only_if ((0 == 0) && (t == t)) (admitted sys s t i)) (slice_get s.head.known s.admitted)) None) None) some
-        ∙ ap (λ b. cond b (option_and_then (λ i. only_if ((0 == 0) && (t == t)) (admitted sys s t i)) (slice_get s.head.known s.admitted)) None) (ap is_none (finished.idle 0))
-        ∙ ap (option_and_then (λ i. only_if ((0 == 0) && (t == t)) (admitted sys s t i))) e
-        ∙ ap (λ b. only_if b (admitted sys s t j)) (and_true (0 == 0) (t == t) refl (number_self t))
+        ap (λ b. cond b (cond (is_none (s.hands 0)) (option_and_then (λ i. only_if ((0 == 0) && (t == t)) (after_admit sys s t i)) (slice_get s.head.known s.admitted)) None) None) some
+        ∙ ap (λ b. cond b (option_and_then (λ i. only_if ((0 == 0) && (t == t)) (after_admit sys s t i)) (slice_get s.head.known s.admitted)) None) (ap is_none (finished.idle 0))
+        ∙ ap (option_and_then (λ i. only_if ((0 == 0) && (t == t)) (after_admit sys s t i))) e
+        ∙ ap (λ b. only_if b (after_admit sys s t j)) (and_true (0 == 0) (t == t) refl (number_self t))
       where
         first_worker : (n : ℕ) → 1 ≤ n → nat_lt 0 n ≡ true
         first_worker n l = grind (arith, nat_tests)
 
     none_next : next_line m.head ≡ None
-    none_next = none_if (next_line m.head) (λ j e. not_both (step (plan_actors m.plan.program) m.plan.workers s next_admit) (admitted (plan_actors m.plan.program) s (suc (s.before + s.admitted)) j) (finished.none next_admit) (can_admit j (there j e)))
+    none_next = none_if (next_line m.head) (λ j e. not_both (step (plan_actors m.plan.program) m.plan.workers s next_admit) (after_admit (plan_actors m.plan.program) s (suc (s.before + s.admitted)) j) (finished.none next_admit) (can_admit j (there j e)))
       where
         there : (j : Line) → next_line m.head ≡ Some j → slice_get s.head.known s.admitted ≡ Some j
         there j e = ap (λ xs. slice_get xs s.admitted) (known_is m s h) ∙ ap (slice_get (h.head.lines ++ m.head.waiting)) (h.head.admitted ∙ sym h.head.as_many) ∙ slice_past h.head.lines m.head.waiting ∙ e

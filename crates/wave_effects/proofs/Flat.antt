@@ -10,7 +10,7 @@ use Rattle.wave_states.specs.Actors.{Actors, Pause, Go, Down, Back, Over}
 use Rattle.wave_states.specs.Labels.{Act, Label, Admit, Queue, Grant, Visit, Start, Stop, Free, Pass, Land, Commit, ticket_of, path_of, is_local}
 use Rattle.wave_states.specs.States as theory
 use Rattle.wave_states.specs.States.{Cell, Column, Entry, Hand, Hold, Letter, Enter, Release, Transfer, Mail, Record, State, Ended, hold_at, holds_as_peek, set}
-use Rattle.wave_states.specs.Steps.{Bench, Part, Route, Deliver, Born, Wait, Forward, act_bench, admitted, child_or_new, committed, desk_back, ended, entry_for, host_or, into_child, keep_below, left_by, moved_on, new_cell, next_ticket, only_if, over_by, over_here, over_there, part_of, put_back, route, seen_by, segment_of, step, with_bench, with_body, with_entry}
+use Rattle.wave_states.specs.Steps.{Bench, Part, Route, Deliver, Born, Wait, Forward, act_bench, after_admit, child_or_new, after_commit, desk_back, after_end, entry_for, host_or, into_child, keep_below, left_by, moved_on, new_cell, next_ticket, only_if, over_by, over_here, over_there, part_of, put_back, route, seen_by, segment_of, step, with_bench, with_body, with_entry}
 use Rattle.wave_states.specs.Desks.{Desk, give_up, kept_of, left_of, not_at, nothing_kept, release, send, with_held, with_status}
 use Rattle.wave_theory.proofs.Basics.{and_second, if_some, none_not, only_some, path_is, some_same, then_some}
 use Rattle.wave_theory.proofs.Opened.{frees, grants, lands, passes, queues, starts, stopping, visits}
@@ -106,7 +106,7 @@ module _ {A F : Type 0} where
   given_flat : (keep : Path → Bool) (d : Desk A F) → FlatDesk d → FlatDesk (give_up keep d)
   given_flat keep d h = released_flat (left_of keep d.event.held) (record { event = with_held d.event (kept_of keep d.event.held); mails = d.mails }) h
 
-  ended_flat : (d : Desk A F) → FlatDesk d → FlatDesk (ended d)
+  ended_flat : (d : Desk A F) → FlatDesk d → FlatDesk (after_end d)
   ended_flat d h = given_flat nothing_kept (record { event = with_status d.event Ended; mails = d.mails }) h
 
 module _ {A F R : Type 0} where
@@ -293,8 +293,8 @@ module _ {A F R J : Type 0} (sys : Actors A F R J) where
     admit_kept w host t e =
         let i = if_some (nat_lt w workers) _ s' e in
         let j = if_some (is_none (s.hands w)) _ s' i.1 in
-        let k = then_some (λ job. only_if ((host == 0) && (t == next_ticket s)) (admitted sys s t job)) (slice_get s.head.known s.admitted) s' j.1 in
-        let o = only_some ((host == 0) && (t == next_ticket s)) (admitted sys s t k.0) s' k.2 in
+        let k = then_some (λ job. only_if ((host == 0) && (t == next_ticket s)) (after_admit sys s t job)) (slice_get s.head.known s.admitted) s' j.1 in
+        let o = only_some ((host == 0) && (t == next_ticket s)) (after_admit sys s t k.0) s' k.2 in
         subst IsFlat o.1 (record { mails = λ u. by_ticket k.0 u (nat_eq t u); columns = flat.columns; hands = flat.hands })
       where
         by_ticket : (job : J) (u : ℕ) (b : Bool) → FlatMails (cond b (new_cell sys (sys.make job t) t) (s.cells u)).mails
@@ -306,8 +306,8 @@ module _ {A F R J : Type 0} (sys : Actors A F R J) where
     commit_kept w host t e =
         let i = if_some (nat_lt w workers) _ s' e in
         let j = if_some (is_none (s.hands w)) _ s' i.1 in
-        let k = then_some (λ r. only_if ((host == 0) && (t == suc (s.before + s.head.done))) (committed sys s r)) (s.cells t).result s' j.1 in
-        let o = only_some ((host == 0) && (t == suc (s.before + s.head.done))) (committed sys s k.0) s' k.2 in
+        let k = then_some (λ r. only_if ((host == 0) && (t == suc (s.before + s.head.done))) (after_commit sys s r)) (s.cells t).result s' j.1 in
+        let o = only_some ((host == 0) && (t == suc (s.before + s.head.done))) (after_commit sys s k.0) s' k.2 in
         subst IsFlat o.1 (record { mails = flat.mails; columns = flat.columns; hands = flat.hands })
 
     pub step_kept : (l : Label) → step sys workers s l ≡ Some s' → IsFlat s'

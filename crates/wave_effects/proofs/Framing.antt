@@ -15,7 +15,7 @@ use Rattle.event_cells.specs.declared.cell.Cell.{Cell}
 use Rattle.wave_states.specs.Labels.{Label, ticket_of, path_of}
 use Rattle.wave_states.specs.States as theory
 use Rattle.wave_states.specs.States.{Column}
-use Rattle.wave_states.specs.Steps.{landed, with_holders}
+use Rattle.wave_states.specs.Steps.{column_joined, with_holders}
 use Rattle.wave_theory.proofs.Basics.{none_not, some_same}
 use Rattle.wave_effects.specs.declared.actor.Actor.{Actor}
 use Rattle.wave_effects.specs.Machines.{Kept}
@@ -70,10 +70,10 @@ pub same_at : (st st' : Stores) (q : Path) → table.get st'.store q ≡ table.g
 same_at st st' q store gone = record { entry = ap (option_map entry_of) store; mark = gone }
 
 -- a store in which a context landed has it
-pub has_landed : (st st' : Stores) (p : Path) (e : Entry) → ((c : Column Fields) (h : ℕ) (en : theory.Entry Fields) → IsAt st p c h → StandsFor e en → IsAt st' p (landed c h (with_holders en [])) h) → has p st' ≡ true
+pub has_landed : (st st' : Stores) (p : Path) (e : Entry) → ((c : Column Fields) (h : ℕ) (en : theory.Entry Fields) → IsAt st p c h → StandsFor e en → IsAt st' p (column_joined c h (with_holders en [])) h) → has p st' ≡ true
 has_landed st st' p e lands =
     let en = with_holders (entry_of e) [] in
-    let column = landed (column_of st p) 0 en in
+    let column = column_joined (column_of st p) 0 en in
     has_it (table.get st'.store p) (column.store 0) en (lands (column_of st p) 0 (entry_of e) itself (stands e)).entry (landed_here (column_of st p) 0 en)
   where
     matches : (o : Option Entry) → Matches o (option_map entry_of o)

@@ -19,7 +19,7 @@ use Rattle.event_cells.specs.declared.cell.Cell.{Cell}
 use Rattle.event_cells.specs.declared.cell.JobKind.{JobKind}
 use Rattle.wave_states.specs.Labels.{Label, Admit, Commit}
 use Rattle.wave_states.specs.States as theory
-use Rattle.wave_states.specs.Steps.{admitted, committed, step}
+use Rattle.wave_states.specs.Steps.{after_admit, after_commit, step}
 use Rattle.code_actor.specs.CodeActors as code
 use Rattle.code_actor.specs.CodeActors.{Fields}
 use Rattle.plan_actors.specs.PlanActors as actors
@@ -94,7 +94,7 @@ module _ (laws : Laws) (m : Kept) (w host t : ℕ) where
         begins = stands.begins;
         labels = stands.labels ++ l ∷ [];
         reached = after laws m start s stands l s' e;
-        shows = subst (Shows (with_admitted m head kind c)) (ap (admitted sys s t) (sym job) ∙ a.gives) (admitted_shows m s h t line c head kind at fresh takes named made);
+        shows = subst (Shows (with_admitted m head kind c)) (ap (after_admit sys s t) (sym job) ∙ a.gives) (admitted_shows m s h t line c head kind at fresh takes named made);
       }
 
 module _ (heads : Heads) (m : Kept) (w host t : ℕ) (on : IsEnabled m (record { worker = w; host = host; act = Admit t })) where
@@ -162,7 +162,7 @@ module _ (laws : Laws) (m : Kept) (w host t : ℕ) where
         begins = stands.begins;
         labels = stands.labels ++ l ∷ [];
         reached = after laws m start s stands l s' e;
-        shows = subst (Shows (with_committed m head commits x)) (ap (committed sys s) (sym job) ∙ c.gives)
+        shows = subst (Shows (with_committed m head commits x)) (ap (after_commit sys s) (sym job) ∙ c.gives)
             (committed_shows m s stands.shows r x head commits is takes (subst (DoesOne m.head head) are does) result (λ xs n. tickets xs n ∙ ap (tickets_of m.head.first (head_of xs m.head)) are));
       }
 

@@ -11,7 +11,7 @@ use Rattle.wave_states.specs.Actors.{Actors, Pause, Left, Go, Down, Back, Over}
 use Rattle.wave_states.specs.States as theory
 use Rattle.wave_states.specs.States.{Cell, Column, Entry, Release, Ended, hold_at}
 use Rattle.wave_states.specs.Desks.{Desk, give_up, kept_of, left_of, release, send, with_held, with_status, nothing_kept, not_at}
-use Rattle.wave_states.specs.Steps.{Part, cell_of, departed, ended, into_child, over_by, over_here, over_there, paused, put_back, stopped, with_body, with_entry, moved_on}
+use Rattle.wave_states.specs.Steps.{Part, cell_of, column_left, after_end, into_child, over_by, over_here, over_there, after_pause, put_back, after_stop, with_body, with_entry, moved_on}
 use Rattle.wave_theory.proofs.Basics.{none_not, some_same}
 use Rattle.plan_actors.specs.PlanActors as actors
 use Rattle.wave_effects.specs.declared.actor.Actor.{Actor}
@@ -44,7 +44,7 @@ module _ {F : Type 0} where
   into_as p host d en f cs s peek (Some h) = refl
 
   module _ {R : Type 0} where
-    ended_as : (d : Desk Actor F) (r : R) (column : Column F) → record { cell = cell_of (ended (desk_as d)) (Some r); column = column } ≡ part_as (record { cell = cell_of (ended d) (Some r); column = column })
+    ended_as : (d : Desk Actor F) (r : R) (column : Column F) → record { cell = cell_of (after_end (desk_as d)) (Some r); column = column } ≡ part_as (record { cell = cell_of (after_end d) (Some r); column = column })
     ended_as d r column = ap (λ (z : Desk actors.Actor F). record { cell = cell_of z (Some r); column = column }) (give_up_as nothing_kept (record { event = with_status d.event Ended; mails = d.mails }))
 
     over_as : (p : Path) (host : ℕ) (x : Part Actor F R) (d : Desk Actor F) (en : Entry F) (r : R) (o : Option (Path × ℕ)) → over_by p (part_as x) host (desk_as d) en r o ≡ part_as (over_by p x host d en r o)
@@ -53,7 +53,7 @@ module _ {F : Type 0} where
       where
         by_place : (b : Bool) → cond b (over_here (part_as x) host (desk_as d) en r) (over_there p (part_as x) host (desk_as d) en r m.1) ≡ part_as (cond b (over_here x host d en r) (over_there p x host d en r m.1))
         by_place true = ended_as d r (with_entry x.column host (Some en))
-        by_place false = ended_as (send (record { event = with_held d.event (kept_of (not_at p) d.event.held); mails = d.mails }) (record { host = m.1; path = p; letter = theory.Transfer (moved_on en) })) r (departed x.column host m.1 (suc en.moves))
+        by_place false = ended_as (send (record { event = with_held d.event (kept_of (not_at p) d.event.held); mails = d.mails }) (record { host = m.1; path = p; letter = theory.Transfer (moved_on en) })) r (column_left x.column host m.1 (suc en.moves))
 
     module _ (moved : R → Option (Path × ℕ)) (p : Path) (host : ℕ) (x : Part Actor F R) (d : Desk Actor F) (en : Entry F) (r : theory.Record F) (peek : Bool) where
       paused_as : (why : Pause R) → paused_by moved p host (part_as x) (desk_as d) en r peek why ≡ part_as (paused_by moved p host x d en r peek why)
@@ -75,13 +75,13 @@ module _ {F : Type 0} where
 -- ---- the theory's Stop
 
 module _ {A F R J : Type 0} (sys : Actors A F R J) (p : Path) (host : ℕ) (x : Part A F R) (d : Desk A F) (en : Entry F) (cs : List (Step × Child)) where
-  paused_is : (f : F) (peek : Bool) (why : Pause R) → paused sys p host x d en f cs peek why ≡ paused_by sys.moved p host x d en (record { fields = f; children = cs }) peek why
+  paused_is : (f : F) (peek : Bool) (why : Pause R) → after_pause sys p host x d en f cs peek why ≡ paused_by sys.moved p host x d en (record { fields = f; children = cs }) peek why
   paused_is f peek (Go s) = refl
   paused_is f peek (Down s) = refl
   paused_is f peek Back = refl
   paused_is f peek (Over r) = refl
 
-  pub stopped_is : (y : Left A F R) (looks : Bool) → stopped sys p host x d en cs y looks ≡ stopped_by sys.moved p host x d en (record { fields = y.fields; children = cs }) (sys.peeks y.actor) y.pause looks
+  pub stopped_is : (y : Left A F R) (looks : Bool) → after_stop sys p host x d en cs y looks ≡ stopped_by sys.moved p host x d en (record { fields = y.fields; children = cs }) (sys.peeks y.actor) y.pause looks
   stopped_is y true = refl
   stopped_is y false = ap Some (paused_is y.fields (sys.peeks y.actor) y.pause)
 
@@ -102,7 +102,7 @@ module _ {A F R : Type 0} (moved : R → Option (Path × ℕ)) (p : Path) (host 
   entry_else : (e : Entry F) → Elsewhere host x.column (with_entry x.column host (Some e))
   entry_else e g n = (sym (ap (λ b. cond b (Some e) (x.column.store g)) (apart_from host g n)), refl)
 
-  departed_else : (to k : ℕ) → Elsewhere host x.column (departed x.column host to k)
+  departed_else : (to k : ℕ) → Elsewhere host x.column (column_left x.column host to k)
   departed_else to k g n = (sym (ap (λ b. cond b None (x.column.store g)) (apart_from host g n)), sym (ap (λ b. cond b (Some (record { to = to; number = k })) (x.column.gone g)) (apart_from host g n)))
 
   over_else : (e : Entry F) (o : R) (m : Option (Path × ℕ)) → Elsewhere host x.column (over_by p x host d e o m).column

@@ -12,7 +12,7 @@ use Rattle.context_queue.specs.Entries.{StandsFor}
 use Rattle.host_map.specs.Stores.{Stores, IsAt, Matches, mark_of}
 use Rattle.wave_states.specs.States as theory
 use Rattle.wave_states.specs.States.{Column, set}
-use Rattle.wave_states.specs.Steps.{with_entry, landed}
+use Rattle.wave_states.specs.Steps.{with_entry, column_joined}
 use Rattle.code_actor.specs.CodeActors.{Fields}
 use Rattle.wave_effects.proofs.Parts.{each_store}
 
@@ -41,7 +41,7 @@ stands_there o r e en m a b = subst (λ x. Matches (Some e) x) b (subst (λ x. M
 pub at_host : (c : Column Fields) (h : ℕ) (en : TheEntry) → (with_entry c h (Some en)).store h ≡ Some en
 at_host c h en = ap (λ b. cond b (Some en) (c.store h)) (nat_eq_equiv.refl h)
 
-pub landed_here : (c : Column Fields) (h : ℕ) (en : TheEntry) → (landed c h en).store h ≡ Some en
+pub landed_here : (c : Column Fields) (h : ℕ) (en : TheEntry) → (column_joined c h en).store h ≡ Some en
 landed_here c h en = ap (λ b. cond b (Some en) (c.store h)) (nat_eq_equiv.refl h)
 
 -- an entry is written
@@ -83,7 +83,7 @@ module _ (xs : List Stores) (f : Path → Column Fields) (h : ℕ) (p : Path) (s
       (λ g n. subst (λ (d : Column Fields). ((f p).store g ≡ d.store g) × ((f p).gone g ≡ d.gone g)) is (elsewhere_entry (f p) h (Some en) g n))
 
   -- once a context landed there: its entry joins the store, where a mark is cleared
-  pub stores_landed : (en : TheEntry) (c : Column Fields) → IsAt st' p (landed (f p) h en) h → ((q : Path) → q ≢ p → table.get st'.store q ≡ table.get st.store q) → ((q : Path) → q ≢ p → table.get st'.gone q ≡ table.get st.gone q) → landed (f p) h en ≡ c
+  pub stores_landed : (en : TheEntry) (c : Column Fields) → IsAt st' p (column_joined (f p) h en) h → ((q : Path) → q ≢ p → table.get st'.store q ≡ table.get st.store q) → ((q : Path) → q ≢ p → table.get st'.gone q ≡ table.get st.gone q) → column_joined (f p) h en ≡ c
       → (g : ℕ) (y : Stores) → slice_get (slice_set xs h st') g ≡ Some y → (q : Path) → IsAt y q (set path_eq f p c q) g
   stores_landed en c here stores marks is =
       each_store xs f h st' p c all (subst (λ d. IsAt st' p d h) is here)

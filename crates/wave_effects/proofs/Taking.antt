@@ -16,7 +16,7 @@ use Rattle.wave_states.specs.Runs.{run}
 use Rattle.wave_states.specs.States as theory
 use Rattle.wave_states.specs.States.{Ask, Column, State, Event}
 use Rattle.wave_states.specs.Desks.{Desk}
-use Rattle.wave_states.specs.Steps.{landed, others, part_of, step, with_holders}
+use Rattle.wave_states.specs.Steps.{column_joined, others, part_of, step, with_holders}
 use Rattle.wave_theory.proofs.Basics.{some_same, then_some}
 use Rattle.wave_theory.proofs.Opened.{LetterIs, frees, grants, lands, passes, visits}
 use Rattle.plan_actors.specs.PlanActors as actors
@@ -214,7 +214,7 @@ module _ (laws : Laws) (m : Kept) (t k : ℕ) (p : Path) (w host : ℕ) where
       }
 
   pub land_taken : (i : ℕ) (c c' : Cell Actor) (st st' : Stores) (o : Option Envelope) (e : Entry) → m.first + i ≡ t → slice_get m.cells i ≡ Some c → TakesMail c c' k → ((d : Desk Actor Fields) → StandsFor c d → Carries o (d.mails k)) → entry_in o ≡ Some e
-      → slice_get m.stores host ≡ Some st → ((col : Column Fields) (h : ℕ) (en : theory.Entry Fields) → IsAt st p col h → EntryStands e en → IsAt st' p (landed col h (with_holders en [])) h)
+      → slice_get m.stores host ≡ Some st → ((col : Column Fields) (h : ℕ) (en : theory.Entry Fields) → IsAt st p col h → EntryStands e en → IsAt st' p (column_joined col h (with_holders en [])) h)
       → ((q : Path) → q ≢ p → table.get st'.store q ≡ table.get st.store q) → ((q : Path) → q ≢ p → table.get st'.gone q ≡ table.get st.gone q) → Takes m (with_store (with_cell m i c') host st') (record { worker = w; host = host; act = Land t k p })
   land_taken i c c' st st' o e at there takes mail is here lands_it stores marks start s s' stands taking =
       let l : Label = record { worker = w; host = host; act = Land t k p } in

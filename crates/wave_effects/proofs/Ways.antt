@@ -20,7 +20,7 @@ use Rattle.wave_states.specs.Actors.{Go, Down, Back, Over}
 use Rattle.wave_states.specs.States as theory
 use Rattle.wave_states.specs.States.{Column, Entry, Mail, hold_at, set}
 use Rattle.wave_states.specs.Desks.{Desk, give_up, send}
-use Rattle.wave_states.specs.Steps.{Part, cell_of, departed, ended, host_or, into_child, over_by, over_here, over_there, put_back, with_body, with_entry}
+use Rattle.wave_states.specs.Steps.{Part, cell_of, column_left, after_end, host_or, into_child, over_by, over_here, over_there, put_back, with_body, with_entry}
 use Rattle.wave_theory.proofs.Basics.{none_not, some_not, some_same}
 use Rattle.wave_effects.specs.declared.actor.Actor.{Actor}
 use Rattle.wave_effects.specs.inner.Leaving.{HasLeft, Hold, Tells, away_from, into, paused_by, sent_off, stopped_by}
@@ -127,14 +127,14 @@ module _ (c : Cell Actor) (st : Stores) (p : Path) (host : ℕ) (x y : Part Acto
       by_place false f = ap (over_there p x host d en o) (some_same m.1 g (sym f))
 
   pub away_left : (moved : EventResult → Option (Path × ℕ)) (d : Desk Actor Fields) (en : Entry Fields) (r : theory.Record Fields) (peek : Bool) (o : EventResult) (g : ℕ) (looks : Bool) → Some g ≡ away_from host (moved o) → looks ≡ false → stopped_by moved p host x d en r peek (Over o) looks ≡ Some y
-      → StandsFor c (ended (sent_off d p g (with_body en (Some r)))) → IsAt st p (departed (with_entry x.column host (Some (with_body en (Some r)))) host g (suc en.moves)) host → HasLeft c st p host (Some o) y
+      → StandsFor c (after_end (sent_off d p g (with_body en (Some r)))) → IsAt st p (column_left (with_entry x.column host (Some (with_body en (Some r)))) host g (suc en.moves)) host → HasLeft c st p host (Some o) y
   away_left moved d en r peek o g looks to off e stands at =
       let en' = with_body en (Some r) in
       let is : over_there p x host d en' o g ≡ y = sym (over_away d en' o (moved o) g to) ∙ some_same (over_by p x host d en' o (moved o)) y (ap (stopped_by moved p host x d en r peek (Over o)) (sym off) ∙ e) in
       record {
-        desk = ended (sent_off d p g en');
+        desk = after_end (sent_off d p g en');
         stands = stands;
         cell = ap (λ (u : Part Actor Fields EventResult). u.cell) (sym is);
         there = subst (λ (u : Column Fields). IsAt st p u host) (ap (λ (u : Part Actor Fields EventResult). u.column) is)
-            (is_at_as st p (departed (with_entry x.column host (Some en')) host g (suc en.moves)) (departed x.column host g (suc en.moves)) host (sym (set_here (with_entry x.column host (Some en')).store host None) ∙ set_here x.column.store host None) refl at);
+            (is_at_as st p (column_left (with_entry x.column host (Some en')) host g (suc en.moves)) (column_left x.column host g (suc en.moves)) host (sym (set_here (with_entry x.column host (Some en')).store host None) ∙ set_here x.column.store host None) refl at);
       }

@@ -18,7 +18,7 @@ ghost use Rattle.wave_states.specs.Actors.{Over};
 ghost use Rattle.wave_states.specs.States as theory;
 ghost use Rattle.wave_states.specs.States.{hold_at, holds_as_peek, set, Column, Mail};
 ghost use Rattle.wave_states.specs.Desks.{Desk, send};
-ghost use Rattle.wave_states.specs.Steps.{Part, departed, host_or, with_body, with_entry};
+ghost use Rattle.wave_states.specs.Steps.{Part, column_left, host_or, with_body, with_entry};
 ghost use Rattle.wave_base.specs.Paths.{parent_of};
 ghost use Rattle.wave_effects.specs.declared.actor.Actor as actors;
 ghost use Rattle.wave_effects.specs.inner.Leaving.{CanGoOn, HasLeft, HasMail, IsNear, Tells, away_from, into, onward, raised_child, sent_off, stopped_by};
@@ -201,7 +201,7 @@ fn send_away(cell: &mut Cell<Actor>, store: &mut HostStore, path: &Path, to: Hos
     ensures numbers { cell.new.outbox.sent + length cell.new.held.holds < 2 ^ 32 }
     ensures one_mail_more { length cell.new.outbox.mails ≡ length cell.old.outbox.mails + 1 }
     ensures fewer { length cell.new.held.holds ≤ length cell.old.held.holds }
-    ensures here { (c : Column Fields) (host : ℕ) (en : theory.Entry Fields) → IsAt store.old path.now c host → c.store host ≡ Some en → IsAt store.new path.now (departed c host to.0 (suc en.moves)) host }
+    ensures here { (c : Column Fields) (host : ℕ) (en : theory.Entry Fields) → IsAt store.old path.now c host → c.store host ≡ Some en → IsAt store.new path.now (column_left c host to.0 (suc en.moves)) host }
     ensures store { (q : paths.Path) → q ≢ path.now → map.get store.new.store q ≡ map.get store.old.store q }
     ensures gone { (q : paths.Path) → q ≢ path.now → map.get store.new.gone q ≡ map.get store.old.gone q }
 {

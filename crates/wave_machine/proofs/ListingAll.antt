@@ -17,7 +17,7 @@ use Rattle.event_cells.specs.declared.status.Status as S
 use Rattle.event_cells.specs.declared.status.Status.TheVariants as status
 use Rattle.event_cells.specs.Cells.{status_of}
 use Rattle.wave_states.specs.Actors.{Actors}
-use Rattle.wave_states.specs.Canonical.{at_host, below, by_event, by_mail, by_mails, by_status, early, enabled, grants_of, idle_in, late, mail_act, passes_of, runs_it, starts_of, stop_by, stops, stops_of, taken_as, taken_by, takes, tickets}
+use Rattle.wave_states.specs.Canonical.{at_host, below, by_event, by_mail, by_mails, by_status, early, enabled_labels, grants_of, idle_in, late, mail_act, passes_of, runs_it, starts_of, stop_by, stops, stops_of, taken_as, taken_by, takes, tickets}
 use Rattle.wave_states.specs.Labels.{Act, Choice, Label, Admit, Queue, Grant, Start as Begin, Stop, Free, Pass, Land, Commit, is_stop}
 use Rattle.wave_states.specs.Labels
 use Rattle.wave_states.specs.States as theory
@@ -272,8 +272,8 @@ module _ (m : Kept) (start : Start) (s : TheState) (shows : Shows m s) (list : C
             ∙ ap (λ o. X (by_event o (λ e. stops_of s m.plan.script.hosts t e.status))) (sym is.event)
 
   -- what is asked for is the canonical list, where the lowest idle worker takes all but the Stops
-  pub enabled_is : in_order (asked_in m (position is_none m.hands) (tickets_from 0 (m.plan.workers - 0))) ≡ enabled sys m.plan.workers m.plan.script.hosts s
-  unfolding enabled
+  pub enabled_is : in_order (asked_in m (position is_none m.hands) (tickets_from 0 (m.plan.workers - 0))) ≡ enabled_labels sys m.plan.workers m.plan.script.hosts s
+  unfolding enabled_labels
   enabled_is =
       let same : m.plan.workers - 0 ≡ m.plan.workers = omega arith in
       let idle = idle_in s.hands (below m.plan.workers) in

@@ -10,7 +10,7 @@ use Rattle.wave_states.specs.Labels.{Act, Choice, Label, Admit, Queue, Grant, St
 use Rattle.wave_states.specs.Labels
 use Rattle.wave_states.specs.States.{State, Ask, Claim, Column, Entry, Event, Letter, Enter, Visit, Back, Release, Transfer, Mail, Mark, ask_in, entry_in, is_coming, is_release}
 use Rattle.wave_states.specs.States
-use Rattle.wave_states.specs.Steps.{Part, Route, granted, queued, with_event, without_mail, with_entry, with_holders, others, landed, Deliver, Born, Wait, Forward, act_bench, admit, admitted, commit, committed, entry_for, free, grant, land, letter_at, mail_for, may_join, next_ticket, only_if, part_of, pass, passed_on, queue, route, route_by, step, step_by, visit, with_bench}
+use Rattle.wave_states.specs.Steps.{Part, Route, after_grant, after_queue, with_event, without_mail, with_entry, with_holders, others, column_joined, Deliver, Born, Wait, Forward, act_bench, admit, after_admit, commit, after_commit, entry_for, free, grant, land, letter_at, mail_for, may_join, next_ticket, only_if, part_of, pass, passed_on, queue, route, route_by, step, step_by, visit, with_bench}
 use Rattle.wave_states.specs.Desks.{with_status}
 use Rattle.wave_theory.proofs.Basics.{number_self, path_self}
 use Rattle.wave_theory.proofs.Reading.{step_local}
@@ -124,8 +124,8 @@ module _ {A F R J : Type 0} (sys : Actors A F R J) where
       admit_can =
           ap is_some (step_is w 0 (Admit (next_ticket s)) within)
           ∙ ap (λ o. is_some (if is_none o then admit sys s 0 (next_ticket s) else None)) idle
-          ∙ ap (λ b. is_some (option_and_then (λ j. only_if b (admitted sys s (next_ticket s) j)) (slice_get s.head.known s.admitted))) (both_true (0 == 0) (next_ticket s == next_ticket s) refl (number_self (next_ticket s)))
-          ∙ then_made (admitted sys s (next_ticket s)) (slice_get s.head.known s.admitted)
+          ∙ ap (λ b. is_some (option_and_then (λ j. only_if b (after_admit sys s (next_ticket s) j)) (slice_get s.head.known s.admitted))) (both_true (0 == 0) (next_ticket s == next_ticket s) refl (number_self (next_ticket s)))
+          ∙ then_made (after_admit sys s (next_ticket s)) (slice_get s.head.known s.admitted)
 
       -- the next to be committed
       pub commit_can : can (Commit (suc (s.before + s.head.done))) 0 ≡ is_some (s.cells (suc (s.before + s.head.done))).result
@@ -133,8 +133,8 @@ module _ {A F R J : Type 0} (sys : Actors A F R J) where
           let t = suc (s.before + s.head.done) in
           ap is_some (step_is w 0 (Commit t) within)
           ∙ ap (λ o. is_some (if is_none o then commit sys s 0 t else None)) idle
-          ∙ ap (λ b. is_some (option_and_then (λ r. only_if b (committed sys s r)) (s.cells t).result)) (both_true (0 == 0) (t == t) refl (number_self t))
-          ∙ then_made (committed sys s) (s.cells t).result
+          ∙ ap (λ b. is_some (option_and_then (λ r. only_if b (after_commit sys s r)) (s.cells t).result)) (both_true (0 == 0) (t == t) refl (number_self t))
+          ∙ then_made (after_commit sys s) (s.cells t).result
 
       module _ (t : ℕ) (event : Event A) (is : (s.cells t).event ≡ Some event) where
         -- who is next in the line, and gets in
@@ -142,7 +142,7 @@ module _ {A F R J : Type 0} (sys : Actors A F R J) where
         grant_can h p =
             local_can h (Grant t p) refl
             ∙ some_map (λ z. record { part = z; hand = None }) (grant t p h (part_of s t p))
-            ∙ then_is (λ (e : Event A). option_and_then (λ en. option_and_then (λ c. only_if ((c.ticket == t) && may_join c.peek en.holders) (granted p h (part_of s t p) e en c)) (en.waiting (suc en.served))) ((s.columns p).store h)) (s.cells t).event event is
+            ∙ then_is (λ (e : Event A). option_and_then (λ en. option_and_then (λ c. only_if ((c.ticket == t) && may_join c.peek en.holders) (after_grant p h (part_of s t p) e en c)) (en.waiting (suc en.served))) ((s.columns p).store h)) (s.cells t).event event is
             ∙ by_entry ((s.columns p).store h)
           where
             joins : (c : Claim) (b : Bool) → ((c.ticket == t) && b) ≡ is_claim t (only_if b c)
@@ -161,9 +161,9 @@ module _ {A F R J : Type 0} (sys : Actors A F R J) where
             by_claim en y None = refl
             by_claim en y (Some c) = only_is ((c.ticket == t) && may_join c.peek en.holders) (y c) ∙ joins c (may_join c.peek en.holders)
 
-            by_entry : (o : Option (Entry F)) → is_some (option_and_then (λ en. option_and_then (λ c. only_if ((c.ticket == t) && may_join c.peek en.holders) (granted p h (part_of s t p) event en c)) (en.waiting (suc en.served))) o) ≡ is_next_at t o
+            by_entry : (o : Option (Entry F)) → is_some (option_and_then (λ en. option_and_then (λ c. only_if ((c.ticket == t) && may_join c.peek en.holders) (after_grant p h (part_of s t p) event en c)) (en.waiting (suc en.served))) o) ≡ is_next_at t o
             by_entry None = refl
-            by_entry (Some en) = by_claim en (granted p h (part_of s t p) event en) (en.waiting (suc en.served))
+            by_entry (Some en) = by_claim en (after_grant p h (part_of s t p) event en) (en.waiting (suc en.served))
 
         module _ (k : ℕ) (m : Mail F) (there : (s.cells t).mails k ≡ Some m) where
           abbrev p : Path
@@ -181,11 +181,11 @@ module _ {A F R J : Type 0} (sys : Actors A F R J) where
           calm_can : (a : Act) → is_local a ≡ true → (o : Option (Part A F R)) → act_bench sys a h (part_of s (ticket_of a) (path_of a)) None ≡ option_map (λ (z : Part A F R). record { part = z; hand = None }) o → can a h ≡ is_some o
           calm_can a z o e = local_can h a z ∙ ap is_some e ∙ some_map (λ (z : Part A F R). record { part = z; hand = None }) o
 
-          queue_can : (l : Letter F) → m.letter ≡ l → can (Queue t k p) h ≡ is_some (option_and_then (λ a. option_and_then (λ en. Some (queued t k p h x event a en)) (entry_for sys p h x.column (route x.column h a.followed))) (ask_in l))
+          queue_can : (l : Letter F) → m.letter ≡ l → can (Queue t k p) h ≡ is_some (option_and_then (λ a. option_and_then (λ en. Some (after_queue t k p h x event a en)) (entry_for sys p h x.column (route x.column h a.followed))) (ask_in l))
           queue_can l e =
               calm_can (Queue t k p) refl (queue sys t k p h x) refl
-              ∙ then_is (λ (v : Event A). option_and_then (λ (m : Letter F). option_and_then (λ a. option_and_then (λ en. Some (queued t k p h x v a en)) (entry_for sys p h x.column (route x.column h a.followed))) (ask_in m)) (letter_at x.cell k h p)) (s.cells t).event event is
-              ∙ then_is (λ (m : Letter F). option_and_then (λ a. option_and_then (λ en. Some (queued t k p h x event a en)) (entry_for sys p h x.column (route x.column h a.followed))) (ask_in m)) (letter_at x.cell k h p) l (letter l e)
+              ∙ then_is (λ (v : Event A). option_and_then (λ (m : Letter F). option_and_then (λ a. option_and_then (λ en. Some (after_queue t k p h x v a en)) (entry_for sys p h x.column (route x.column h a.followed))) (ask_in m)) (letter_at x.cell k h p)) (s.cells t).event event is
+              ∙ then_is (λ (m : Letter F). option_and_then (λ a. option_and_then (λ en. Some (after_queue t k p h x event a en)) (entry_for sys p h x.column (route x.column h a.followed))) (ask_in m)) (letter_at x.cell k h p) l (letter l e)
 
           visit_can : (l : Letter F) → m.letter ≡ l → can (Labels.Visit t k p) h ≡ is_coming l
           visit_can l e =
@@ -216,8 +216,8 @@ module _ {A F R J : Type 0} (sys : Actors A F R J) where
           land_can : (l : Letter F) → m.letter ≡ l → can (Land t k p) h ≡ is_some (entry_in l)
           land_can l e =
               calm_can (Land t k p) refl (land k p h x) refl
-              ∙ then_is (λ (m : Letter F). option_and_then (λ en. Some (record { cell = without_mail x.cell k; column = landed x.column h (with_holders en []) })) (entry_in m)) (letter_at x.cell k h p) l (letter l e)
-              ∙ then_made (λ en. record { cell = without_mail x.cell k; column = landed x.column h (with_holders en []) }) (entry_in l)
+              ∙ then_is (λ (m : Letter F). option_and_then (λ en. Some (record { cell = without_mail x.cell k; column = column_joined x.column h (with_holders en []) })) (entry_in m)) (letter_at x.cell k h p) l (letter l e)
+              ∙ then_made (λ en. record { cell = without_mail x.cell k; column = column_joined x.column h (with_holders en []) }) (entry_in l)
 
           -- the label of what the mail can do
           abbrev pub mail_label : Letter F → List Label
@@ -225,7 +225,7 @@ module _ {A F R J : Type 0} (sys : Actors A F R J) where
 
           pub queues : (l : Letter F) → m.letter ≡ l → takes sys workers s w (mail_act (λ t k p. Queue t k p) t k m) ≡ of_kind 1 (mail_label l)
           queues (Enter a) e =
-              taken_one w h (Queue t k p) (is_in (route x.column h a.followed)) (queue_can (Enter a) e ∙ then_made (λ en. queued t k p h x event a en) (entry_for sys p h x.column (route x.column h a.followed)) ∙ entered_is p h a.followed x.column)
+              taken_one w h (Queue t k p) (is_in (route x.column h a.followed)) (queue_can (Enter a) e ∙ then_made (λ en. after_queue t k p h x event a en) (entry_for sys p h x.column (route x.column h a.followed)) ∙ entered_is p h a.followed x.column)
               ∙ queue_of_enter w h t k p (route x.column h a.followed)
           queues Visit e = taken_one w h (Queue t k p) false (queue_can Visit e)
           queues Back e = taken_one w h (Queue t k p) false (queue_can Back e)

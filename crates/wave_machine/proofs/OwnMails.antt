@@ -10,7 +10,7 @@ use Rattle.wave_states.specs.Actors.{Actors, Pause, Left, Go, Down, Over}
 use Rattle.wave_states.specs.Labels.{Act, Admit, Commit, Queue, Grant, Visit, Start as Starting, Stop, Free, Pass, Land, ticket_of}
 use Rattle.wave_states.specs.States as theory
 use Rattle.wave_states.specs.States.{Enter, Entry, Event, Hand, Hold, Mail, Release, State, Transfer, Ended, Ready, Running, Waiting, hold_at, holds_as_peek, set}
-use Rattle.wave_states.specs.Steps.{Bench, Part, act_bench, desk_back, ended, granted, host_or, into_child, looked, moved_on, over_by, over_here, over_there, part_of, paused, queued, segment_of, started, step, stop, stopped, with_bench, with_body, with_event, with_hand, without_mail}
+use Rattle.wave_states.specs.Steps.{Bench, Part, act_bench, desk_back, after_end, after_grant, host_or, into_child, after_look, moved_on, over_by, over_here, over_there, part_of, after_pause, after_queue, segment_of, after_start, step, stop, after_stop, with_bench, with_body, with_event, with_hand, without_mail}
 use Rattle.wave_states.specs.Desks.{Desk, give_up, kept_of, left_of, not_at, nothing_kept, release, send, with_held, with_status}
 use Rattle.wave_theory.proofs.Basics.{differ, if_some, none_not, set_at, set_there, some_same}
 use Rattle.wave_theory.proofs.Opened.{frees, grants, lands, passes, queues, starts, stopping, visits}
@@ -45,7 +45,7 @@ module _ {A F : Type 0} where
   more_give : (keep : Path → Bool) (d d' : Desk A F) → SentMore d d' → SentMore d (give_up keep d')
   more_give keep d d' x = more_release (left_of keep d'.event.held) d (record { event = with_held d'.event (kept_of keep d'.event.held); mails = d'.mails }) (record { sent = x.sent; mails = x.mails })
 
-  more_ended : (d d' : Desk A F) → SentMore d d' → SentMore d (ended d')
+  more_ended : (d d' : Desk A F) → SentMore d d' → SentMore d (after_end d')
   more_ended d d' x = more_give nothing_kept d (record { event = with_status d'.event Ended; mails = d'.mails }) (record { sent = x.sent; mails = x.mails })
 
   more_child : (p : Path) (host : ℕ) (d : Desk A F) (en : Entry F) (f : F) (cs : List (Step × Child)) (s : Step) (peek : Bool) (o : Option Hold) → SentMore d (into_child p host d en f cs s peek o).0
@@ -61,14 +61,14 @@ record FromDesk {A F R : Type 0} (d : Desk A F) (y : Part A F R) : Type 0 where
 
 module _ {A F R J : Type 0} (sys : Actors A F R J) (p : Path) (host : ℕ) (x : Part A F R) (d : Desk A F) where
   from_here : (en : Entry F) (r : R) → FromDesk d (over_here x host d en r)
-  from_here en r = record { desk = ended d; more = more_ended d d (more_self d); event = refl; mails = λ k. refl }
+  from_here en r = record { desk = after_end d; more = more_ended d d (more_self d); event = refl; mails = λ k. refl }
 
   from_there : (en : Entry F) (r : R) (g : ℕ) → FromDesk d (over_there p x host d en r g)
   from_there en r g =
       let kept : Desk A F = record { event = with_held d.event (kept_of (not_at p) d.event.held); mails = d.mails } in
       let mail : Mail F = record { host = g; path = p; letter = Transfer (moved_on en) } in
       record {
-        desk = ended (send kept mail);
+        desk = after_end (send kept mail);
         more = more_ended d (send kept mail) (more_send d kept mail (record { sent = omega arith; mails = λ k low. refl }));
         event = refl;
         mails = λ k. refl;
@@ -82,7 +82,7 @@ module _ {A F R J : Type 0} (sys : Actors A F R J) (p : Path) (host : ℕ) (x : 
       by_host true = from_here en r
       by_host false = from_there en r m.1
 
-  from_pause : (en : Entry F) (f : F) (cs : List (Step × Child)) (peek : Bool) (u : Pause R) → FromDesk d (paused sys p host x d en f cs peek u)
+  from_pause : (en : Entry F) (f : F) (cs : List (Step × Child)) (peek : Bool) (u : Pause R) → FromDesk d (after_pause sys p host x d en f cs peek u)
   from_pause en f cs peek (Go s) =
       let y = into_child p host d en f cs s peek (hold_at d.event.held (p ++ s ∷ [])) in
       record {
@@ -99,13 +99,13 @@ module _ {A F R J : Type 0} (sys : Actors A F R J) (p : Path) (host : ℕ) (x : 
       record { desk = send d mail; more = more_send d d mail (more_self d); event = refl; mails = λ k. refl }
   from_pause en f cs peek (Over r) = from_over (with_body en (Some (record { fields = f; children = cs }))) r (sys.moved r)
 
-  from_look : (en : Entry F) (u : Pause R) (y : Part A F R) → looked x host d en u ≡ Some y → FromDesk d y
+  from_look : (en : Entry F) (u : Pause R) (y : Part A F R) → after_look x host d en u ≡ Some y → FromDesk d y
   from_look en (Over r) y e = subst (FromDesk d) (some_same _ y e) (from_here en r)
   from_look en (Go s) y e = absurd (none_not e)
   from_look en (Down s) y e = absurd (none_not e)
   from_look en Pause.Back y e = absurd (none_not e)
 
-  from_stop : (en : Entry F) (cs : List (Step × Child)) (left : Left A F R) (peek : Bool) (y : Part A F R) → stopped sys p host x d en cs left peek ≡ Some y → FromDesk d y
+  from_stop : (en : Entry F) (cs : List (Step × Child)) (left : Left A F R) (peek : Bool) (y : Part A F R) → after_stop sys p host x d en cs left peek ≡ Some y → FromDesk d y
   from_stop en cs left true y e = from_look en left.pause y e
   from_stop en cs left false y e = subst (FromDesk d) (some_same _ y e) (from_pause en left.fields cs (sys.peeks left.actor) left.pause)
 
@@ -172,7 +172,7 @@ module _ {A F R J : Type 0} (sys : Actors A F R J) (workers : ℕ) (s s' : State
       let left = left_by sys workers s s' (record { worker = w; host = host; act = Queue t k p }) refl e in
       let calm = queue_found sys host (part_of s t p) left.bench t k p (s.hands w) left.found in
       let v = queues sys t k p host (part_of s t p) left.bench.part calm.part in
-      let y = queued t k p host (part_of s t p) v.event v.ask v.entry in
+      let y = after_queue t k p host (part_of s t p) v.event v.ask v.entry in
       at t p left.bench left.gives k
       (subst (λ (z : Part A F R). KeepsOwn (s.cells t) z.cell k) v.gives
       (own_set (s.cells t) y.cell k None v.letter_at.mail v.letter_at.mail_is (λ j. refl) (same_with (s.cells t) y.cell v.event (with_status v.event (Waiting p)) v.event_is refl refl)))
@@ -180,7 +180,7 @@ module _ {A F R J : Type 0} (sys : Actors A F R J) (workers : ℕ) (s s' : State
       let left = left_by sys workers s s' (record { worker = w; host = host; act = Grant t p }) refl e in
       let calm = grant_found sys host (part_of s t p) left.bench t 0 p (s.hands w) left.found in
       let v = grants t p host (part_of s t p) left.bench.part calm.part in
-      let y = granted p host (part_of s t p) v.event v.entry v.claim in
+      let y = after_grant p host (part_of s t p) v.event v.entry v.claim in
       at t p left.bench left.gives 0
       (subst (λ (z : Part A F R). KeepsOwn (s.cells t) z.cell 0) v.gives
       (own_stays (s.cells t) y.cell (λ j. refl)
@@ -197,7 +197,7 @@ module _ {A F R J : Type 0} (sys : Actors A F R J) (workers : ℕ) (s s' : State
       let left = left_by sys workers s s' (record { worker = w; host = host; act = Starting t p }) refl e in
       let begins = start_found sys host (part_of s t p) left.bench t p (s.hands w) left.found in
       let v = starts t p host (part_of s t p) left.bench begins.found in
-      let y = started t p host (part_of s t p) v.event v.entry v.actor v.body in
+      let y = after_start t p host (part_of s t p) v.event v.entry v.actor v.body in
       at t p left.bench left.gives 0
       (subst (λ (z : Bench A F R). KeepsOwn (s.cells t) z.part.cell 0) v.gives
       (own_stays (s.cells t) y.part.cell (λ j. refl) (same_with (s.cells t) y.part.cell v.event (record { actor = None; held = v.event.held; sent = v.event.sent; status = Running p }) v.event_is refl refl)))

@@ -1,7 +1,7 @@
 -- What can be done by an idle worker, as a list that does not say who.
 use Rattle.std.specs.Prelude.{ℕ, suc, List, map}
 use Rattle.wave_labels.specs.Labels.{act_of}
-use Rattle.wave_states.specs.Canonical.{enabled, enabled_for}
+use Rattle.wave_states.specs.Canonical.{enabled_labels, enabled_for}
 use Rattle.wave_states.specs.Labels.{Choice, Label}
 use Rattle.plan_actors.specs.PlanActors.{plan_actors}
 use Rattle.plan_actors.specs.Plans.{Plan}
@@ -16,7 +16,7 @@ choice_from l = record { host = l.host; act = l.act }
 
 -- what can be done at a state, in the canonical order: all but the Stops by the lowest idle worker
 abbrev pub enabled_in : Plan → TheState → List Label
-enabled_in plan s = enabled (plan_actors plan.program) plan.workers plan.script.hosts s
+enabled_in plan s = enabled_labels (plan_actors plan.program) plan.workers plan.script.hosts s
 
 -- what a worker can do, in the same order
 abbrev pub enabled_by : Plan → TheState → ℕ → List Label

@@ -6,7 +6,7 @@ use Rattle.wave_states.specs.Counter.{counter}
 use Rattle.wave_states.specs.States.{State}
 use Rattle.wave_states.specs.Labels.{Label, Act, Admit, Queue, Grant, Start, Stop, Free, Commit}
 use Rattle.wave_states.specs.Begins.{first_begin, start_state}
-use Rattle.wave_states.specs.Canonical.{enabled}
+use Rattle.wave_states.specs.Canonical.{enabled_labels}
 use Rattle.wave_states.specs.Steps.{step}
 use Rattle.wave_states.specs.Runs.{run, drive, seed}
 use Rattle.wave_states.specs.Alone.{fold_alone, after_segments}
@@ -25,21 +25,21 @@ abbrev pub journal : List Label
 journal = by_worker 0 (Admit 1 ∷ Queue 1 1 [] ∷ Grant 1 [] ∷ Start 1 [] ∷ Stop 1 [] ∷ Commit 1 ∷ Free 1 2 [] ∷ [])
 
 abbrev pub seen : Option (State ℕ ℕ (ℕ × ℕ) ℕ) → Option (ℕ × Option (ℕ × ℕ) × ℕ)
-seen o = option_map (λ s. (s.head.done, (s.cells 1).result, length (enabled counter 4 1 s))) o
+seen o = option_map (λ s. (s.head.done, (s.cells 1).result, length (enabled_labels counter 4 1 s))) o
 
 -- the seven labels of one event are a run, after which all is done
 run_is : seen (run counter 4 (start one) journal) ≡ Some (1, Some (1, 0), 0)
-unfolding step run enabled
+unfolding step run enabled_labels
 run_is = refl
 
 -- and they are the drive from seed 0
 drive_is : drive counter 4 1 seed 20 0 (start one) ≡ journal
-unfolding step enabled drive
+unfolding step enabled_labels drive
 drive_is = refl
 
 -- before them, only an Admit is enabled
-begins_with : enabled counter 4 1 (start one) ≡ by_worker 0 (Admit 1 ∷ [])
-unfolding step enabled
+begins_with : enabled_labels counter 4 1 (start one) ≡ by_worker 0 (Admit 1 ∷ [])
+unfolding step enabled_labels
 begins_with = refl
 
 -- ticket 8 comes after seven others: its entry number at the root is 8
@@ -64,7 +64,7 @@ abbrev pub known_then : Option (State ℕ ℕ (ℕ × ℕ) ℕ) → Option (List
 known_then o = option_map (λ s. (s.head.known, s.head.done, (s.cells 4).result)) o
 
 waits_for_created : known_then (run counter 2 (start two) waits) ≡ Some (2 ∷ 0 ∷ 0 ∷ 0 ∷ [], 4, Some (4, 0))
-unfolding step run enabled drive
+unfolding step run enabled_labels drive
 waits_for_created = refl
 
 -- the fold gives the same results
@@ -78,5 +78,5 @@ unfolding after_segments
 work_is = refl
 
 so_many : length waits ≡ 28
-unfolding step enabled drive
+unfolding step enabled_labels drive
 so_many = refl

@@ -10,7 +10,7 @@ use Rattle.wave_states.specs.Actors.{Actors, Left, Go, Over}
 use Rattle.wave_states.specs.States.{State, Entry}
 use Rattle.wave_states.specs.Labels.{Act, Label, Admit, Queue, Grant, Start, Stop, Free, Commit, is_pass}
 use Rattle.wave_states.specs.Begins.{Begin, first_begin, start_state}
-use Rattle.wave_states.specs.Canonical.{enabled}
+use Rattle.wave_states.specs.Canonical.{enabled_labels}
 use Rattle.wave_states.specs.Steps.{step}
 use Rattle.wave_states.specs.Runs.{run, drive, seed, oldest, newest, movers, mail_last, Rule}
 use Rattle.wave_states.specs.Alone.{fold_alone, places_alone, after_segments}
@@ -113,34 +113,34 @@ summary rule x workers batches =
     option_map (λ s. (
       length ls,
       passes ls,
-      length (enabled trips workers 2 s),
+      length (enabled_labels trips workers 2 s),
       entry_seen ((s.columns (hall ∷ [])).store 0),
       trail_from trips workers (hall ∷ []) (first_trail begin (hall ∷ [])) (Some (start_state begin batches)) ls,
     )) (run trips workers (start_state begin batches) ls)
 
 -- four tickets, eight segments, eight paths entered, two moves: 8 + 24 + 16 labels, besides the Passes
 seed_0 : summary seed 0 1 moves ≡ Some (50, 2, 0, Some (4, 2), 0 ∷ 1 ∷ 0 ∷ [])
-unfolding step run enabled drive
+unfolding step run enabled_labels drive
 seed_0 = refl
 
 seed_7 : summary seed 7 4 moves ≡ Some (49, 1, 0, Some (4, 2), 0 ∷ 1 ∷ 0 ∷ [])
-unfolding step run enabled drive
+unfolding step run enabled_labels drive
 seed_7 = refl
 
 oldest_first : summary oldest 0 4 moves ≡ Some (50, 2, 0, Some (4, 2), 0 ∷ 1 ∷ 0 ∷ [])
-unfolding step run enabled drive
+unfolding step run enabled_labels drive
 oldest_first = refl
 
 newest_first : summary newest 0 4 moves ≡ Some (48, 0, 0, Some (4, 2), 0 ∷ 1 ∷ 0 ∷ [])
-unfolding step run enabled drive
+unfolding step run enabled_labels drive
 newest_first = refl
 
 movers_first : summary (movers is_move) 0 4 moves ≡ Some (49, 1, 0, Some (4, 2), 0 ∷ 1 ∷ 0 ∷ [])
-unfolding step run enabled drive
+unfolding step run enabled_labels drive
 movers_first = refl
 
 mails_last : summary mail_last 0 4 moves ≡ Some (48, 0, 0, Some (4, 2), 0 ∷ 1 ∷ 0 ∷ [])
-unfolding step run enabled drive
+unfolding step run enabled_labels drive
 mails_last = refl
 
 fold_is : (fold_alone trips begin moves 4).results ≡ Sum 1 ∷ Moved (hall ∷ []) 1 ∷ Sum 2 ∷ Moved (hall ∷ []) 0 ∷ []
@@ -164,7 +164,7 @@ unfolding after_segments
 looks_fold = refl
 
 looks_seed : summary seed 5 2 looks ≡ Some (48, 0, 0, Some (4, 0), 0 ∷ [])
-unfolding step run enabled drive
+unfolding step run enabled_labels drive
 looks_seed = refl
 
 -- From a later Start: the root and the child are on host 1, so host 0 has the root's mark, and an Enter to the root is passed on once.
@@ -185,15 +185,15 @@ abbrev pub later_drive : List Label
 later_drive = drive trips 1 2 seed 40 0 later
 
 from_later : later_seen (run trips 1 later later_drive) ≡ Some (Some (Sum 5), Some (8, 1), Some (1, 0))
-unfolding step run enabled drive
+unfolding step run enabled_labels drive
 from_later = refl
 
 so_many : length later_drive ≡ 13
-unfolding step enabled drive
+unfolding step enabled_labels drive
 so_many = refl
 
 passed_once : passes later_drive ≡ 1
-unfolding step enabled drive
+unfolding step enabled_labels drive
 passed_once = refl
 
 -- Ties. After its first Stop an event has two labels, the Queue of its Enter and the Free of its Release: the oldest rule takes the first
@@ -206,12 +206,12 @@ alone_down = (trip (hall ∷ []) Adds ∷ []) ∷ []
 
 oldest_takes_first : drive trips 1 1 oldest 40 0 (start_state begin alone_down)
     ≡ at_zero (Admit 1 ∷ Queue 1 1 [] ∷ Grant 1 [] ∷ Start 1 [] ∷ Stop 1 [] ∷ Queue 1 2 (hall ∷ []) ∷ Grant 1 (hall ∷ []) ∷ Start 1 (hall ∷ []) ∷ Stop 1 (hall ∷ []) ∷ Free 1 3 [] ∷ Free 1 4 (hall ∷ []) ∷ Commit 1 ∷ [])
-unfolding step enabled drive
+unfolding step enabled_labels drive
 oldest_takes_first = refl
 
 newest_takes_last : drive trips 1 1 newest 40 0 (start_state begin alone_down)
     ≡ at_zero (Admit 1 ∷ Queue 1 1 [] ∷ Grant 1 [] ∷ Start 1 [] ∷ Stop 1 [] ∷ Free 1 3 [] ∷ Queue 1 2 (hall ∷ []) ∷ Grant 1 (hall ∷ []) ∷ Start 1 (hall ∷ []) ∷ Stop 1 (hall ∷ []) ∷ Commit 1 ∷ Free 1 4 (hall ∷ []) ∷ [])
-unfolding step enabled drive
+unfolding step enabled_labels drive
 newest_takes_last = refl
 
 -- of two tickets the oldest rule goes on with the lower one, the newest rule with the higher one where it can
@@ -220,10 +220,10 @@ two_down = (trip (hall ∷ []) Adds ∷ trip (hall ∷ []) Adds ∷ []) ∷ []
 
 oldest_takes_least : drive trips 1 1 oldest 9 0 (start_state begin two_down)
     ≡ at_zero (Admit 1 ∷ Queue 1 1 [] ∷ Grant 1 [] ∷ Start 1 [] ∷ Stop 1 [] ∷ Queue 1 2 (hall ∷ []) ∷ Grant 1 (hall ∷ []) ∷ Start 1 (hall ∷ []) ∷ Stop 1 (hall ∷ []) ∷ [])
-unfolding step enabled drive
+unfolding step enabled_labels drive
 oldest_takes_least = refl
 
 newest_takes_greatest : drive trips 1 1 newest 12 0 (start_state begin two_down)
     ≡ at_zero (Admit 1 ∷ Admit 2 ∷ Queue 2 1 [] ∷ Queue 1 1 [] ∷ Grant 1 [] ∷ Start 1 [] ∷ Stop 1 [] ∷ Free 1 3 [] ∷ Grant 2 [] ∷ Start 2 [] ∷ Stop 2 [] ∷ Free 2 3 [] ∷ [])
-unfolding step enabled drive
+unfolding step enabled_labels drive
 newest_takes_greatest = refl

@@ -9,9 +9,9 @@ use Rattle.wave_states.specs.Labels.{Label, Act, Admit, Queue, Grant, Start, Sto
 use Rattle.wave_states.specs.Labels
 use Rattle.wave_states.specs.Work.{work_after}
 use Rattle.wave_states.specs.Begins.{Begin, start_state}
-use Rattle.wave_states.specs.Canonical.{below, idle_in, taken_by, early, enabled}
+use Rattle.wave_states.specs.Canonical.{below, idle_in, taken_by, early, enabled_labels}
 use Rattle.wave_states.specs.Walkers.{Walker, walkers}
-use Rattle.wave_states.specs.Steps.{step, ◌>>=◌, granted, part_of, with_bench, with_entry, with_body, child_or_new, put_back, into_child, desk_back, segment_of, cell_of}
+use Rattle.wave_states.specs.Steps.{step, ◌>>=◌, after_grant, part_of, with_bench, with_entry, with_body, child_or_new, put_back, into_child, desk_back, segment_of, cell_of}
 use Rattle.wave_states.specs.Desks.{with_held, with_status, release}
 use Rattle.wave_states.specs.Runs.{run}
 use Rattle.wave_states.specs.Alone.{fold_alone, after_segments, first_alone}
@@ -52,7 +52,7 @@ let_in_first t number p s = do
   e ← (s.cells t).event
   en ← (s.columns p).store 0
   c ← en.waiting number
-  Some (with_bench s t p 0 (record { part = granted p 0 (part_of s t p) e en c; hand = None }))
+  Some (with_bench s t p 0 (record { part = after_grant p 0 (part_of s t p) e en c; hand = None }))
 
 abbrev by_arrival : Option S
 by_arrival = then_run (option_and_then (let_in_first 2 2 (hall ∷ [])) (run trips 1 (start_state begin both_down) (through_root ++ at_zero (Queue 2 2 (hall ∷ []) ∷ [])))) (at_zero (Start 2 (hall ∷ []) ∷ Stop 2 (hall ∷ []) ∷ []))
@@ -287,8 +287,8 @@ by_the_highest : idle_backwards (start_state begin stays_here) ≡ record { work
 unfolding step
 by_the_highest = refl
 
-by_the_lowest : enabled trips 2 1 (start_state begin stays_here) ≡ record { worker = 0; host = 0; act = Admit 1 } ∷ []
-unfolding step enabled
+by_the_lowest : enabled_labels trips 2 1 (start_state begin stays_here) ≡ record { worker = 0; host = 0; act = Admit 1 } ∷ []
+unfolding step enabled_labels
 by_the_lowest = refl
 
 -- Releases in reverse order: a walker holds the root and a child when it is over, and its Releases fall.

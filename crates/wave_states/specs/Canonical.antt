@@ -119,8 +119,8 @@ module _ {A F R J : Type 0} (sys : Actors A F R J) (workers : ℕ) (s : State A 
 
 module _ {A F R J : Type 0} (sys : Actors A F R J) (workers hosts : ℕ) (s : State A F R J) where
   -- The canonical list. All but the Stops are the lowest idle worker's; without an idle worker there are Stops alone.
-  unfoldable pub enabled : List Label
-  enabled = taken_by sys workers s (idle_in s.hands (below workers)) (early s hosts)
+  unfoldable pub enabled_labels : List Label
+  enabled_labels = taken_by sys workers s (idle_in s.hands (below workers)) (early s hosts)
       ++ flat_map (stop_by sys workers s) (stops s hosts)
       ++ taken_by sys workers s (idle_in s.hands (below workers)) (late s)
 

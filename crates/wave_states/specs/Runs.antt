@@ -5,7 +5,7 @@ use Rattle.wave_states.specs.Actors.{Actors}
 use Rattle.wave_states.specs.States.{State}
 use Rattle.wave_states.specs.Labels.{Label, ticket_of, takes_mail}
 use Rattle.wave_states.specs.Steps.{step}
-use Rattle.wave_states.specs.Canonical.{enabled}
+use Rattle.wave_states.specs.Canonical.{enabled_labels}
 use Rattle.wave_base.specs.Draws.{next_draw, draw_from}
 
 module _ {A F R J : Type 0} (sys : Actors A F R J) (workers : ℕ) where
@@ -78,20 +78,20 @@ module _ {A F R J : Type 0} (sys : Actors A F R J) (workers : ℕ) where
   keep_on more x l (Some v) = l ∷ more x v
 
   -- what is picked, and what more is picked after it
-  abbrev pub picked : (ℕ → State A F R J → List Label) → State A F R J → ℕ × Option Label → List Label
-  picked more s (x, None) = []
-  picked more s (x, Some l) = keep_on more x l (step sys workers s l)
+  abbrev pub picked_labels : (ℕ → State A F R J → List Label) → State A F R J → ℕ × Option Label → List Label
+  picked_labels more s (x, None) = []
+  picked_labels more s (x, Some l) = keep_on more x l (step sys workers s l)
 
 module _ {A F R J : Type 0} (sys : Actors A F R J) (workers hosts : ℕ) (rule : Rule A F R J) where
   -- The drive of a rule: the labels that it picks, until the canonical list is empty.
   unfoldable pub IsDrive : ℕ → State A F R J → List Label → Type 0
-  IsDrive x s [] = enabled sys workers hosts s ≡ []
+  IsDrive x s [] = enabled_labels sys workers hosts s ≡ []
   IsDrive x s (l ∷ ls) =
-      ((rule x s (enabled sys workers hosts s)).1 ≡ Some l)
+      ((rule x s (enabled_labels sys workers hosts s)).1 ≡ Some l)
       × (v : State A F R J) × (step sys workers s l ≡ Some v)
-      × IsDrive (rule x s (enabled sys workers hosts s)).0 v ls
+      × IsDrive (rule x s (enabled_labels sys workers hosts s)).0 v ls
 
   -- the first n of them, computed
   unfoldable pub drive : ℕ → ℕ → State A F R J → List Label
   drive zero x s = []
-  drive (suc n) x s = picked sys workers (λ y v. drive n y v) s (rule x s (enabled sys workers hosts s))
+  drive (suc n) x s = picked_labels sys workers (λ y v. drive n y v) s (rule x s (enabled_labels sys workers hosts s))

@@ -64,12 +64,12 @@ module _ {F : Type 0} where
   with_entry c host e = record { store = set nat_eq c.store host e; gone = c.gone }
 
   -- the entry leaves this host's store for another host, as its move of this number
-  abbrev pub departed : Column F → ℕ → ℕ → ℕ → Column F
-  departed c host to number = record { store = set nat_eq c.store host None; gone = set nat_eq c.gone host (Some (record { to = to; number = number })) }
+  abbrev pub column_left : Column F → ℕ → ℕ → ℕ → Column F
+  column_left c host to number = record { store = set nat_eq c.store host None; gone = set nat_eq c.gone host (Some (record { to = to; number = number })) }
 
   -- and joins the store of the other one, where a mark is cleared
-  abbrev pub landed : Column F → ℕ → Entry F → Column F
-  landed c host e = record { store = set nat_eq c.store host (Some e); gone = set nat_eq c.gone host None }
+  abbrev pub column_joined : Column F → ℕ → Entry F → Column F
+  column_joined c host e = record { store = set nat_eq c.store host (Some e); gone = set nat_eq c.gone host None }
 
   abbrev pub with_body : Entry F → Option (Record F) → Entry F
   with_body e body = record { body = body; holders = e.holders; served = e.served; waiting = e.waiting; moves = e.moves }
@@ -121,8 +121,8 @@ module _ {A F R : Type 0} where
 
   -- Grant t, p, of the host that has p. The claim of t waits under served + 1, and it may join those that hold p: t holds p
   -- at this host, as a peek where it waits as one; served rises by one; ready.
-  abbrev pub granted : Path → ℕ → Part A F R → Event A → Entry F → Claim → Part A F R
-  granted p host x e en c = record {
+  abbrev pub after_grant : Path → ℕ → Part A F R → Event A → Entry F → Claim → Part A F R
+  after_grant p host x e en c = record {
     cell = with_event x.cell (record { actor = e.actor; held = insert_entry path_cmp e.held p (record { host = host; peek = c.peek }); sent = e.sent; status = Ready p });
     column = with_entry x.column host (Some (let_in en c));
   }
@@ -132,12 +132,12 @@ module _ {A F R : Type 0} where
     e ← x.cell.event
     en ← x.column.store host
     c ← en.waiting (suc en.served)
-    only_if ((c.ticket == t) && may_join c.peek en.holders) (granted p host x e en c)
+    only_if ((c.ticket == t) && may_join c.peek en.holders) (after_grant p host x e en c)
 
   -- Start t, p, of p's host. t is ready at p: the actor goes into the worker's hand, and with it the record, or, where t holds
   -- p as a peek, a copy of its fields without children; running.
-  abbrev pub started : ℕ → Path → ℕ → Part A F R → Event A → Entry F → A → Record F → Bench A F R
-  started t p host x e en a b = record {
+  abbrev pub after_start : ℕ → Path → ℕ → Part A F R → Event A → Entry F → A → Record F → Bench A F R
+  after_start t p host x e en a b = record {
     part = record {
       cell = with_event x.cell (record { actor = None; held = e.held; sent = e.sent; status = Running p });
       column = with_entry x.column host (Some (with_body en (left_by (holds_as_peek e.held p) b)));
@@ -151,7 +151,7 @@ module _ {A F R : Type 0} where
     en ← x.column.store host
     a ← e.actor
     b ← en.body
-    only_if (ready_at e.status p) (started t p host x e en a b)
+    only_if (ready_at e.status p) (after_start t p host x e en a b)
 
   -- Free m, of m's host. m is a Release: the entry of the path is no longer held by m's ticket.
   abbrev pub free : ℕ → ℕ → Path → ℕ → Part A F R → Option (Part A F R)
@@ -180,7 +180,7 @@ module _ {A F R : Type 0} where
   land k p host x = do
     m ← letter_at x.cell k host p
     en ← entry_in m
-    Some (record { cell = without_mail x.cell k; column = landed x.column host (with_holders en []) })
+    Some (record { cell = without_mail x.cell k; column = column_joined x.column host (with_holders en []) })
 
 -- the child's record, new or not
 abbrev pub child_or_new : Option Child → ℕ → Child
@@ -216,22 +216,22 @@ module _ {A F : Type 0} where
   keep_below q y = (give_up (is_above q) y.0, y.1)
 
   -- Over: all is released; the result goes to the head; ended.
-  abbrev pub ended : Desk A F → Desk A F
-  ended d = give_up nothing_kept (record { event = with_status d.event Ended; mails = d.mails })
+  abbrev pub after_end : Desk A F → Desk A F
+  after_end d = give_up nothing_kept (record { event = with_status d.event Ended; mails = d.mails })
 
 module _ {A F R : Type 0} where
   abbrev pub put_back : Part A F R → ℕ → Desk A F × Entry F → Part A F R
   put_back x host y = record { cell = cell_of y.0 x.cell.result; column = with_entry x.column host (Some y.1) }
 
   abbrev pub over_here : Part A F R → ℕ → Desk A F → Entry F → R → Part A F R
-  over_here x host d en r = record { cell = cell_of (ended d) (Some r); column = with_entry x.column host (Some en) }
+  over_here x host d en r = record { cell = cell_of (after_end d) (Some r); column = with_entry x.column host (Some en) }
 
   -- Over with a move to another host: the entry leaves the store, its `moves` rises by one, a mark replaces any mark here, and
   -- a Transfer carries the entry; what else is held is released.
   abbrev pub over_there : Path → Part A F R → ℕ → Desk A F → Entry F → R → ℕ → Part A F R
   over_there p x host d en r g = record {
-    cell = cell_of (ended (send (record { event = with_held d.event (kept_of (not_at p) d.event.held); mails = d.mails }) (record { host = g; path = p; letter = Transfer (moved_on en) }))) (Some r);
-    column = departed x.column host g (suc en.moves);
+    cell = cell_of (after_end (send (record { event = with_held d.event (kept_of (not_at p) d.event.held); mails = d.mails }) (record { host = g; path = p; letter = Transfer (moved_on en) }))) (Some r);
+    column = column_left x.column host g (suc en.moves);
   }
 
   abbrev pub over_by : Path → Part A F R → ℕ → Desk A F → Entry F → R → Option (Path × ℕ) → Part A F R
@@ -239,16 +239,16 @@ module _ {A F R : Type 0} where
   over_by p x host d en r (Some m) = if m.1 == host then over_here x host d en r else over_there p x host d en r m.1
 
   -- What only looks puts no record back, and ends there.
-  abbrev pub looked : Part A F R → ℕ → Desk A F → Entry F → Pause R → Option (Part A F R)
-  looked x host d en (Over r) = Some (over_here x host d en r)
-  looked x host d en _ = None
+  abbrev pub after_look : Part A F R → ℕ → Desk A F → Entry F → Pause R → Option (Part A F R)
+  after_look x host d en (Over r) = Some (over_here x host d en r)
+  after_look x host d en _ = None
 
   abbrev pub desk_back : Cell A F R → Event A → A → Desk A F
   desk_back c e a = record { event = record { actor = Some a; held = e.held; sent = e.sent; status = Travelling }; mails = c.mails }
 
   -- what a Queue leaves
-  abbrev pub queued : ℕ → ℕ → Path → ℕ → Part A F R → Event A → Ask → Entry F → Part A F R
-  queued t k p host x e a en = record {
+  abbrev pub after_queue : ℕ → ℕ → Path → ℕ → Part A F R → Event A → Ask → Entry F → Part A F R
+  after_queue t k p host x e a en = record {
     cell = with_event (without_mail x.cell k) (with_status e (Waiting p));
     column = with_entry x.column host (Some (in_line en a.number (record { ticket = t; peek = a.peek })));
   }
@@ -266,7 +266,7 @@ module _ {A F R J : Type 0} where
   with_bench s t p w y = record {
     before = s.before;
     head = s.head;
-    admitted = s.admitted;
+    after_admit = s.admitted;
     cells = set nat_eq s.cells t y.part.cell;
     columns = set path_eq s.columns p y.part.column;
     hands = set nat_eq s.hands w y.hand;
@@ -293,17 +293,17 @@ module _ {A F R J : Type 0} (sys : Actors A F R J) where
     m ← letter_at x.cell k host p
     a ← ask_in m
     en ← entry_for p host x.column (route x.column host a.followed)
-    Some (queued t k p host x e a en)
+    Some (after_queue t k p host x e a en)
 
-  abbrev pub paused : Path → ℕ → Part A F R → Desk A F → Entry F → F → List (Step × Child) → Bool → Pause R → Part A F R
-  paused p host x d en f cs peek (Go s) = put_back x host (keep_below (p ++ s ∷ []) (into_child p host d en f cs s peek (hold_at d.event.held (p ++ s ∷ []))))
-  paused p host x d en f cs peek (Down s) = put_back x host (into_child p host d en f cs s false (hold_at d.event.held (p ++ s ∷ [])))
-  paused p host x d en f cs peek Back = put_back x host (send d (record { host = host_or (hold_at d.event.held (parent_of p)) host; path = parent_of p; letter = Letter.Back }), with_body en (Some (record { fields = f; children = cs })))
-  paused p host x d en f cs peek (Over r) = over_by p x host d (with_body en (Some (record { fields = f; children = cs }))) r (sys.moved r)
+  abbrev pub after_pause : Path → ℕ → Part A F R → Desk A F → Entry F → F → List (Step × Child) → Bool → Pause R → Part A F R
+  after_pause p host x d en f cs peek (Go s) = put_back x host (keep_below (p ++ s ∷ []) (into_child p host d en f cs s peek (hold_at d.event.held (p ++ s ∷ []))))
+  after_pause p host x d en f cs peek (Down s) = put_back x host (into_child p host d en f cs s false (hold_at d.event.held (p ++ s ∷ [])))
+  after_pause p host x d en f cs peek Back = put_back x host (send d (record { host = host_or (hold_at d.event.held (parent_of p)) host; path = parent_of p; letter = Letter.Back }), with_body en (Some (record { fields = f; children = cs })))
+  after_pause p host x d en f cs peek (Over r) = over_by p x host d (with_body en (Some (record { fields = f; children = cs }))) r (sys.moved r)
 
-  abbrev pub stopped : Path → ℕ → Part A F R → Desk A F → Entry F → List (Step × Child) → Left A F R → Bool → Option (Part A F R)
-  stopped p host x d en cs y true = looked x host d en y.pause
-  stopped p host x d en cs y false = Some (paused p host x d en y.fields cs (sys.peeks y.actor) y.pause)
+  abbrev pub after_stop : Path → ℕ → Part A F R → Desk A F → Entry F → List (Step × Child) → Left A F R → Bool → Option (Part A F R)
+  after_stop p host x d en cs y true = after_look x host d en y.pause
+  after_stop p host x d en cs y false = Some (after_pause p host x d en y.fields cs (sys.peeks y.actor) y.pause)
 
   abbrev pub segment_of : Hand A F → Left A F R
   segment_of g = sys.segment g.actor g.body.fields (steps_of g.body.children)
@@ -312,7 +312,7 @@ module _ {A F R J : Type 0} (sys : Actors A F R J) where
   stop p host g x = do
     e ← x.cell.event
     en ← x.column.store host
-    stopped p host x (desk_back x.cell e (segment_of g).actor) en g.body.children (segment_of g) (holds_as_peek e.held p)
+    after_stop p host x (desk_back x.cell e (segment_of g).actor) en g.body.children (segment_of g) (holds_as_peek e.held p)
 
   -- the labels that leave the hand
   abbrev pub calm : Act → ℕ → Part A F R → Option (Part A F R)
@@ -342,11 +342,11 @@ module _ {A F R J : Type 0} (sys : Actors A F R J) where
     result = None;
   }
 
-  abbrev pub admitted : State A F R J → ℕ → J → State A F R J
-  admitted s t j = record {
+  abbrev pub after_admit : State A F R J → ℕ → J → State A F R J
+  after_admit s t j = record {
     before = s.before;
     head = s.head;
-    admitted = suc s.admitted;
+    after_admit = suc s.admitted;
     cells = set nat_eq s.cells t (new_cell (sys.make j t) t);
     columns = s.columns;
     hands = s.hands;
@@ -355,17 +355,17 @@ module _ {A F R J : Type 0} (sys : Actors A F R J) where
   abbrev pub admit : State A F R J → ℕ → ℕ → Option (State A F R J)
   admit s host t = do
     j ← slice_get s.head.known s.admitted
-    only_if ((host == 0) && (t == next_ticket s)) (admitted s t j)
+    only_if ((host == 0) && (t == next_ticket s)) (after_admit s t j)
 
   -- Commit t, on host 0. t is the next to commit and has a result: the jobs that it creates get the next tickets; where all
   -- known jobs are committed, the next batch's become known.
-  abbrev pub committed : State A F R J → R → State A F R J
-  committed s r = record { before = s.before; head = with_done s.head (sys.created r); admitted = s.admitted; cells = s.cells; columns = s.columns; hands = s.hands }
+  abbrev pub after_commit : State A F R J → R → State A F R J
+  after_commit s r = record { before = s.before; head = with_done s.head (sys.created r); admitted = s.admitted; cells = s.cells; columns = s.columns; hands = s.hands }
 
   abbrev pub commit : State A F R J → ℕ → ℕ → Option (State A F R J)
   commit s host t = do
     r ← (s.cells t).result
-    only_if ((host == 0) && (t == suc (s.before + s.head.done))) (committed s r)
+    only_if ((host == 0) && (t == suc (s.before + s.head.done))) (after_commit s r)
 
   -- what the act at a host leads to, taken by a worker
   abbrev pub step_by : State A F R J → ℕ → ℕ → Act → Option (State A F R J)

@@ -7,7 +7,7 @@ use Rattle.wave_base.specs.declared.path.Path.{Path}
 use Rattle.wave_base.specs.Paths.{path_eq}
 use Rattle.wave_states.specs.Actors.{Actors}
 use Rattle.wave_states.specs.States.{State, Column, Enter, Mail, Travelling, set, Cell}
-use Rattle.wave_states.specs.Steps.{new_cell, admitted, committed}
+use Rattle.wave_states.specs.Steps.{new_cell, after_admit, after_commit}
 use Rattle.wave_theory.proofs.Basics.{clash, some_same, none_not, number_cases, path_self, path_cases, set_at, set_there, differ}
 use Rattle.wave_theory.proofs.Order.{Way, IsWay, Entering, Done, is_pending, here, one_more, rank}
 use Rattle.wave_theory.proofs.NewTickets.{admit_good, root_number}
@@ -167,8 +167,8 @@ module _ {A F R J : Type 0} (sys : Actors A F R J) (w : Way) (law : IsWay w) (co
     column_root true c u = record { track = u.track; there = u.there }
     column_root false c u = record { empty = u.empty; last = u.last }
 
-    pub admit_shows : (n : ℕ) → n ≡ suc g.lines.admitted → Shows.Shows sys w course low is_real (admitted sys s n j) ga
-    admit_shows n e = subst (λ i. Shows.Shows sys w course low is_real (admitted sys s i j) ga) (sym e) (record {
+    pub admit_shows : (n : ℕ) → n ≡ suc g.lines.admitted → Shows.Shows sys w course low is_real (after_admit sys s n j) ga
+    admit_shows n e = subst (λ i. Shows.Shows sys w course low is_real (after_admit sys s i j) ga) (sym e) (record {
       good = admit_good law g.lines x.good;
       kept = kept;
       cells = λ b lb l. elim (number_cases t b) [
@@ -231,8 +231,8 @@ module _ {A F R J : Type 0} (sys : Actors A F R J) (w : Way) (law : IsWay w) (co
             (ap (λ n. Tallies.sum_to n (Tallies.over_parts sys w course low is_real ga b)) (set_there nat_eq g.lines.pos t 0 b z))
             (ap₂ (λ i j. Tallies.stage_part (w.fresh b i) j ((ga).out b)) (set_there nat_eq g.lines.pos t 0 b z) (set_there nat_eq g.lines.stage t Entering b z) ∙ ap (Tallies.stage_part (w.fresh b (g.lines.pos b)) (g.lines.stage b)) (set_there nat_eq g.out t false b z)))
 
-    pub admit_alive : (n : ℕ) → n ≡ suc g.lines.admitted → Alive.Alive sys w course low is_real s g → Alive.Alive sys w course low is_real (admitted sys s n j) ga
-    admit_alive n e a = subst (λ i. Alive.Alive sys w course low is_real (admitted sys s i j) ga) (sym e) (record {
+    pub admit_alive : (n : ℕ) → n ≡ suc g.lines.admitted → Alive.Alive sys w course low is_real s g → Alive.Alive sys w course low is_real (after_admit sys s n j) ga
+    admit_alive n e a = subst (λ i. Alive.Alive sys w course low is_real (after_admit sys s i j) ga) (sym e) (record {
       one = λ b lb l. elim (number_cases t b) [
         | inl z ↦ subst (λ i. Alive.AliveOne sys w course low is_real ga i (set nat_eq s.cells t (new_cell sys (sys.make j t) t) i).mails) z (subst (λ (c : Cell A F R). Alive.AliveOne sys w course low is_real ga t c.mails) (sym (set_at s.cells t (new_cell sys (sys.make j t) t))) mine)
         | inr z ↦ subst (λ (c : Cell A F R). Alive.AliveOne sys w course low is_real ga b c.mails) (sym (set_there nat_eq s.cells t _ b z)) (others b z (a.one b lb (older b l z)))
@@ -282,7 +282,7 @@ module _ {A F R J : Type 0} (sys : Actors A F R J) (w : Way) (law : IsWay w) (co
   pub commit_turn : (s : State A F R J) (g : Shows.Ghost F) (t : ℕ) → Deeds.Turn sys w course low is_real s g g (Labels.Commit t)
   commit_turn s g t = record { deed = Deeds.Rests; suits = tt; is = refl; fits = tt; kids = λ r i a z. inl z }
 
-  pub commit_shows : (s : State A F R J) (g : Shows.Ghost F) (r : R) → Shows.Shows sys w course low is_real s g → Shows.Shows sys w course low is_real (committed sys s r) g
+  pub commit_shows : (s : State A F R J) (g : Shows.Ghost F) (r : R) → Shows.Shows sys w course low is_real s g → Shows.Shows sys w course low is_real (after_commit sys s r) g
   commit_shows s g r x = record {
     good = x.good;
     kept = x.kept;

@@ -13,7 +13,7 @@ use Rattle.wave_states.specs.Begins.{Begin, start_state, is_root}
 use Rattle.wave_states.specs.Kinds.{Kind}
 use Rattle.wave_states.specs.Owes.{Owes, IsBegin}
 use Rattle.wave_states.specs.Owners.{trail_step, trail_from, first_trail}
-use Rattle.wave_states.specs.Steps.{Bench, Part, step, step_by, act_bench, with_bench, part_of, admitted, only_if, next_ticket, new_cell}
+use Rattle.wave_states.specs.Steps.{Bench, Part, step, step_by, act_bench, with_bench, part_of, after_admit, only_if, next_ticket, new_cell}
 use Rattle.wave_states.specs.Runs.{run}
 use Rattle.wave_theory.proofs.Basics.{none_not, some_same, then_some, map_some, only_some, if_some, number_cases, path_cases, path_self, set_at, set_there, set_at_path, differ}
 use Rattle.wave_theory.proofs.Order.{Way, IsWay, visits, rank, Stage, Entering, Lined, Coming, There, Done, here}
@@ -292,8 +292,8 @@ module _ {A F R J : Type 0} (kind : Kind A F R J) (owes : Owes kind) (b : Begin 
           mail_new : (t : ℕ) → l.act ≡ Admit t → (c : Ask) × ((s'.cells (ticket_of l.act)).mails 1 ≡ Some (record { host = 0; path = []; letter = Enter c }))
           mail_new t z =
               let i = (GoodStates.idle_of kind owes b batches begins jobs (s.hands l.worker) _ s' (subst (λ a. step_by kind.system s l.worker l.host a ≡ Some s') z by_it)).1 in
-              let j = then_some (λ j. only_if ((l.host == 0) && (t == next_ticket s)) (admitted kind.system s t j)) (slice_get s.head.known s.admitted) s' i in
-              let u = only_some ((l.host == 0) && (t == next_ticket s)) (admitted kind.system s t j.0) s' j.2 in (
+              let j = then_some (λ j. only_if ((l.host == 0) && (t == next_ticket s)) (after_admit kind.system s t j)) (slice_get s.head.known s.admitted) s' i in
+              let u = only_some ((l.host == 0) && (t == next_ticket s)) (after_admit kind.system s t j.0) s' j.2 in (
                 record { number = t; followed = 0; peek = kind.system.peeks (kind.system.make j.0 t) },
                 ap (λ a. (s'.cells (ticket_of a)).mails 1) z ∙ ap (λ (a : State A F R J). (a.cells t).mails 1) (sym u.1) ∙ ap (λ (a : Cell A F R). a.mails 1) (set_at s.cells t (new_cell kind.system (kind.system.make j.0 t) t)) ∙ set_at (λ i. None) 1 (Some (record { host = 0; path = []; letter = Enter (record { number = t; followed = 0; peek = kind.system.peeks (kind.system.make j.0 t) }) })),
               )

@@ -6,7 +6,7 @@ use Rattle.wave_base.specs.Paths.{path_eq}
 use Rattle.wave_states.specs.States.{State, Cell, Column, Entry, Event, Enter, Transfer, set}
 use Rattle.wave_states.specs.Labels.{Act, Label, Admit, Queue, Grant, Start, Stop, Free, Pass, Land, Commit, ticket_of, path_of, is_local}
 use Rattle.wave_states.specs.Labels
-use Rattle.wave_states.specs.Steps.{Bench, step, step_by, act_bench, with_bench, part_of, others, only_if, next_ticket, admitted, committed}
+use Rattle.wave_states.specs.Steps.{Bench, step, step_by, act_bench, with_bench, part_of, others, only_if, next_ticket, after_admit, after_commit}
 use Rattle.wave_states.specs.Runs.{run}
 use Rattle.wave_states.specs.Begins.{Begin, start_state, entry_at_start}
 use Rattle.wave_base.specs.Tree.{there}
@@ -174,17 +174,17 @@ module _ {A F R J : Type 0} (kind : Kind A F R J) (owes : Owes kind) (b : Begin 
               ]
 
       whole : (a : Act) → step_by kind.system s l.worker l.host a ≡ Some s' → Whole a s'
-      whole (Admit t) e = (let j = then_some (λ j. only_if ((l.host == 0) && (t == next_ticket s)) (admitted kind.system s t j)) (slice_get s.head.known s.admitted) s' (if_some _ _ s' e).1 in
-          subst (Whole (Admit t)) (only_some ((l.host == 0) && (t == next_ticket s)) (admitted kind.system s t j.0) s' j.2).1 (record {
+      whole (Admit t) e = (let j = then_some (λ j. only_if ((l.host == 0) && (t == next_ticket s)) (after_admit kind.system s t j)) (slice_get s.head.known s.admitted) s' (if_some _ _ s' e).1 in
+          subst (Whole (Admit t)) (only_some ((l.host == 0) && (t == next_ticket s)) (after_admit kind.system s t j.0) s' j.2).1 (record {
             others = λ u d. set_there nat_eq s.cells t _ u d;
             event = λ u' i. inl (first t j.0 u' i);
             single = λ p en i. single_by t j.0 p en i;
           }))
         where
-          first : (t : ℕ) (j : J) (u' : Event A) → ((admitted kind.system s t j).cells t).event ≡ Some u' → (u'.sent ≡ 1) × (u'.held ≡ []) × ((i : ℕ) × (Admit t ≡ Admit i))
+          first : (t : ℕ) (j : J) (u' : Event A) → ((after_admit kind.system s t j).cells t).event ≡ Some u' → (u'.sent ≡ 1) × (u'.held ≡ []) × ((i : ℕ) × (Admit t ≡ Admit i))
           first t j u' i = (let z = some_same _ u' (sym (ap (λ (c : Cell A F R). c.event) (set_at s.cells t (Rattle.wave_states.specs.Steps.new_cell kind.system (kind.system.make j t) t))) ∙ i) in (ap (λ (v : Event A). v.sent) (sym z), ap (λ (v : Event A). v.held) (sym z), (t, refl)))
 
-          single_by : (t : ℕ) (j : J) (p : Path) (en : Entry F) → HasEntry (admitted kind.system s t j) p en → OnceIn en.holders
+          single_by : (t : ℕ) (j : J) (p : Path) (en : Entry F) → HasEntry (after_admit kind.system s t j) p en → OnceIn en.holders
           single_by t j p en (inl i) = h.single p en (inl i)
           single_by t j p en (inr i) = elim (number_cases t i.0) [
             | inr d ↦ h.single p en (inr (i.0, i.1, i.2, sym (ap (λ (c : Cell A F R). c.mails i.1) (set_there nat_eq s.cells t _ i.0 d)) ∙ i.3))
@@ -193,8 +193,8 @@ module _ {A F R J : Type 0} (kind : Kind A F R J) (owes : Owes kind) (b : Begin 
             where
               none_new : (n : ℕ) {c : ℕ} → (Rattle.wave_states.specs.Steps.new_cell kind.system (kind.system.make j t) t).mails n ≡ Some (record { host = c; path = p; letter = Transfer en }) → ⊥
               none_new n e = none_not (Spent.not_passed kind owes b batches begins jobs s k (λ i. None) 1 (record { host = 0; path = []; letter = Enter (record { number = t; followed = 0; peek = kind.system.peeks (kind.system.make j t) }) }) (record { number = t; followed = 0; peek = kind.system.peeks (kind.system.make j t) }) refl n _ en e refl)
-      whole (Commit t) e = (let r = then_some (λ r. only_if ((l.host == 0) && (t == suc (s.before + s.head.done))) (committed kind.system s r)) (s.cells t).result s' (if_some _ _ s' e).1 in
-          subst (Whole (Commit t)) (only_some ((l.host == 0) && (t == suc (s.before + s.head.done))) (committed kind.system s r.0) s' r.2).1 (record {
+      whole (Commit t) e = (let r = then_some (λ r. only_if ((l.host == 0) && (t == suc (s.before + s.head.done))) (after_commit kind.system s r)) (s.cells t).result s' (if_some _ _ s' e).1 in
+          subst (Whole (Commit t)) (only_some ((l.host == 0) && (t == suc (s.before + s.head.done))) (after_commit kind.system s r.0) s' r.2).1 (record {
             others = λ u d. refl;
             event = λ u' i. inr (u', i, refl);
             single = λ p en i. h.single p en i;

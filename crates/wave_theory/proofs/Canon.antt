@@ -25,7 +25,7 @@ use Rattle.std.specs.Prelude.{filter, flat_map, map, is_none, option_map}
 use Rattle.wave_states.specs.States.{Status, Mark, Travelling, Waiting, Ready, Running, Ended, Transfer}
 use Rattle.wave_states.specs.Labels.{Choice, is_stop}
 use Rattle.wave_states.specs.Steps.{admit, commit}
-use Rattle.wave_states.specs.Canonical.{below, takes, at_host, by_event, runs_it, by_status, stops_of, early, stops, late, idle_in, taken_as, taken_by, stop_by, enabled, enabled_for}
+use Rattle.wave_states.specs.Canonical.{below, takes, at_host, by_event, runs_it, by_status, stops_of, early, stops, late, idle_in, taken_as, taken_by, stop_by, enabled_labels, enabled_for}
 use Rattle.wave_states.specs.Canonical
 use Rattle.wave_theory.specs.Hands.{CanStop}
 use Rattle.wave_states.specs.Runs.{Finished}
@@ -210,7 +210,7 @@ module _ {A F R J : Type 0} (kind : Kind A F R J) (owes : Owes kind) (b : Begin 
       where_is v h a n c = (let y = step_is (record { worker = v; host = h; act = a }) c in Choices.found_in kind owes b batches begins jobs s k h a n (Choices.step_may kind owes b batches begins jobs s k workers v (wants_idle v h a n y.1) h a y.1))
 
       pub listed : Listed kind workers b batches s
-      unfolding enabled
+      unfolding enabled_labels
       listed l = (there, back)
         where
           there : IsIn (early_part ++ stop_part ++ late_part) l → (can l ≡ true) × (is_stop l.act ≡ false → LowerAreOut s l.worker)
@@ -285,12 +285,12 @@ module _ {A F R J : Type 0} (kind : Kind A F R J) (owes : Owes kind) (b : Begin 
       first_can some_worker idle l c = Able.if_can (nat_lt 0 workers) _ (by_less 0 workers some_worker) (Choices.may_step kind owes b batches begins jobs s k workers 0 (idle 0) l.host l.act (Choices.step_may kind owes b batches begins jobs s k workers l.worker (idle l.worker) l.host l.act (step_is l c).1))
 
       pub empty_at_end : 0 < workers → ((v : ℕ) (hd : Hand A F) → s.hands v ≡ Some hd → CanStop kind.system workers s v hd) → EmptyAtEnd kind workers b batches s
-      empty_at_end some_worker stoppable = (over, λ fin. nothing_in (enabled kind.system workers kind.hosts s) (λ l i. none_not (sym (fin.none l) ∙ (option_some (step kind.system workers s l) ((listed l).0 i).0).1)))
+      empty_at_end some_worker stoppable = (over, λ fin. nothing_in (enabled_labels kind.system workers kind.hosts s) (λ l i. none_not (sym (fin.none l) ∙ (option_some (step kind.system workers s l) ((listed l).0 i).0).1)))
         where
-          over : enabled kind.system workers kind.hosts s ≡ [] → Finished kind.system workers s
+          over : enabled_labels kind.system workers kind.hosts s ≡ [] → Finished kind.system workers s
           over e = record { none = λ l. none_for l (step kind.system workers s l) refl; idle = idle }
             where
-              not_in : (l : Label) → IsIn (enabled kind.system workers kind.hosts s) l → ⊥
+              not_in : (l : Label) → IsIn (enabled_labels kind.system workers kind.hosts s) l → ⊥
               not_in l i = subst (λ ls. IsIn ls l) e i
 
               idle : (v : ℕ) → s.hands v ≡ None

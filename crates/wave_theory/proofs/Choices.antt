@@ -26,7 +26,7 @@ use Rattle.std.specs.Prelude.{flat_map, is_none, option_map}
 use Rattle.wave_base.specs.Fold.{tickets_from}
 use Rattle.wave_states.specs.States.{Status, Mark, Travelling, Waiting, Ready, Running, Ended}
 use Rattle.wave_states.specs.Labels.{Choice, is_stop}
-use Rattle.wave_states.specs.Steps.{admit, commit, admitted, committed, next_ticket, only_if}
+use Rattle.wave_states.specs.Steps.{admit, commit, after_admit, after_commit, next_ticket, only_if}
 use Rattle.wave_states.specs.Canonical.{below, at_host, by_event, by_mail, to_mark, by_status, grants_of, starts_of, by_mails, mail_act, passes_of, early, late}
 use Rattle.wave_states.specs.Canonical
 use Rattle.wave_theory.specs.Listed.{IsIn}
@@ -145,13 +145,13 @@ module _ {A F R J : Type 0} (kind : Kind A F R J) (owes : Owes kind) (b : Begin 
     found_in h (Stop t p) e m = absurd (clash true refl e)
     found_in h (Admit t) e m =
         let y = option_some (admit kind.system s h t) m in
-        let j = then_some (λ j. only_if ((h == 0) && (t == next_ticket s)) (admitted kind.system s t j)) (slice_get s.head.known s.admitted) y.0 y.1 in
-        let o = only_some ((h == 0) && (t == next_ticket s)) (admitted kind.system s t j.0) y.0 j.2 in
+        let j = then_some (λ j. only_if ((h == 0) && (t == next_ticket s)) (after_admit kind.system s t j)) (slice_get s.head.known s.admitted) y.0 y.1 in
+        let o = only_some ((h == 0) && (t == next_ticket s)) (after_admit kind.system s t j.0) y.0 j.2 in
         in_early h (Admit t) (in_left ((first_choice ∷ queue_list) ++ grant_list ++ visit_list) start_list _ (in_left ((first_choice ∷ queue_list) ++ grant_list) visit_list _ (in_left (first_choice ∷ queue_list) grant_list _ (inl (choice_is 0 h (Admit (next_ticket s)) (Admit t) (sym (number_is h 0 (and_first (h == 0) (t == next_ticket s) o.0))) (ap Admit (sym (number_is t (next_ticket s) (and_second (h == 0) (t == next_ticket s) o.0)))))))))
     found_in h (Commit t) e m =
         let y = option_some (commit kind.system s h t) m in
-        let r = then_some (λ r. only_if ((h == 0) && (t == suc (s.before + s.head.done))) (committed kind.system s r)) (s.cells t).result y.0 y.1 in
-        let o = only_some ((h == 0) && (t == suc (s.before + s.head.done))) (committed kind.system s r.0) y.0 r.2 in
+        let r = then_some (λ r. only_if ((h == 0) && (t == suc (s.before + s.head.done))) (after_commit kind.system s r)) (s.cells t).result y.0 y.1 in
+        let o = only_some ((h == 0) && (t == suc (s.before + s.head.done))) (after_commit kind.system s r.0) y.0 r.2 in
         in_late h (Commit t) (in_right (free_list ++ pass_list ++ land_list) (last_choice ∷ []) _ (inl (choice_is 0 h (Commit (suc (s.before + s.head.done))) (Commit t)
         (sym (number_is h 0 (and_first (h == 0) (t == suc (s.before + s.head.done)) o.0))) (ap Commit (sym (number_is t (suc (s.before + s.head.done)) (and_second (h == 0) (t == suc (s.before + s.head.done)) o.0)))))))
     found_in h (Queue t n p) e m = (let y = option_some _ m in let z = calm_is _ y.0 y.1 in let q = queues kind.system t n p h (part_of s t p) z.0 z.1 in

@@ -8,7 +8,7 @@ use Rattle.wave_base.specs.Paths.{path_eq}
 use Rattle.wave_states.specs.Actors.{Actors, Pause, Go, Down, Back, Over}
 use Rattle.wave_states.specs.States.{State, Column, Claim, Entry, Event, Hand, Record, Letter, set, holds_as_peek, is_release}
 use Rattle.wave_states.specs.Labels.{Label, Act, Admit, Commit, Queue, Grant, Start, Stop, Free, Visit, Land, Pass, ticket_of, path_of, is_local, is_start}
-use Rattle.wave_states.specs.Steps.{Part, Bench, step_by, act_bench, part_of, with_bench, with_hand, calm, stop, stopped, looked, free, only_if, with_entry, with_body, with_holders, others, left_by, started, ready_at, letter_at, without_mail, segment_of, desk_back, over_here}
+use Rattle.wave_states.specs.Steps.{Part, Bench, step_by, act_bench, part_of, with_bench, with_hand, calm, stop, after_stop, after_look, free, only_if, with_entry, with_body, with_holders, others, left_by, after_start, ready_at, letter_at, without_mail, segment_of, desk_back, over_here}
 use Rattle.wave_theory.specs.Independent.{Independent, Peeks, IsLight}
 use Rattle.wave_theory.proofs.Basics.{bool_cases, clash, some_same, none_not, then_some, map_some, only_some, if_some, and_first, number_is, number_self, number_cases, not_same, path_is, path_self, path_cases, set_set, set_apart, set_noop, set_twice, set_twice_path, set_here, set_there, set_at_path}
 
@@ -197,7 +197,7 @@ module _ {A F R J : Type 0} (sys : Actors A F R J) where
   light_start s t p h (Some g) y k e = absurd (none_not e)
   light_start s t p h None y k e =
       let x : Part A F R = part_of s t p in
-      let last : Event A → Entry F → A → Record F → Option (Bench A F R) = λ ev en a b. only_if (ready_at ev.status p) (started t p h x ev en a b) in
+      let last : Event A → Entry F → A → Record F → Option (Bench A F R) = λ ev en a b. only_if (ready_at ev.status p) (after_start t p h x ev en a b) in
       let r1 = then_some (λ ev. option_and_then (λ en. option_and_then (λ a. option_and_then (λ b. last ev en a b) en.body) ev.actor) (x.column.store h)) x.cell.event y e in
       let r2 = then_some (λ en. option_and_then (λ a. option_and_then (λ b. last r1.0 en a b) en.body) (r1.0).actor) (x.column.store h) y r1.2 in
       let r3 = then_some (λ a. option_and_then (λ b. last r1.0 r2.0 a b) (r2.0).body) (r1.0).actor y r2.2 in
@@ -207,7 +207,7 @@ module _ {A F R J : Type 0} (sys : Actors A F R J) where
       light_start_by s t p h y r1.0 r2.0 r3.0 r4.0 r1.1 r2.1 r3.1 r4.1 o.0 o.1 peek
     where
       light_start_by : (s : State A F R J) (t : ℕ) (p : Path) (h : ℕ) (y : Bench A F R) (ev : Event A) (en : Entry F) (a : A) (b : Record F) → (s.cells t).event ≡ Some ev → (s.columns p).store h ≡ Some en → ev.actor ≡ Some a → en.body ≡ Some b →
-          ready_at ev.status p ≡ true → started t p h (part_of s t p) ev en a b ≡ y → holds_as_peek ev.held p ≡ true → Light t (Start t p) h (part_of s t p) None y
+          ready_at ev.status p ≡ true → after_start t p h (part_of s t p) ev en a b ≡ y → holds_as_peek ev.held p ≡ true → Light t (Start t p) h (part_of s t p) None y
       light_start_by s t p h y ev en a b e1 e2 e3 e4 e5 e6 peek = record {
         entry = en;
         store_is = e2;
@@ -222,19 +222,19 @@ module _ {A F R J : Type 0} (sys : Actors A F R J) where
   light_stop s t p h (Some g) y k e =
       let i = if_some ((g.ticket == t) && path_eq g.path p) _ y e in
       let r = map_some (λ (z : Part A F R). record { part = z; hand = None }) (stop sys p h g (part_of s t p)) y i.1 in
-      let r1 = then_some (λ ev. option_and_then (λ en. stopped sys p h (part_of s t p) (desk_back (s.cells t) ev (segment_of sys g).actor) en g.body.children (segment_of sys g) (holds_as_peek ev.held p)) ((s.columns p).store h)) (s.cells t).event r.0 r.1 in
-      let r2 = then_some (λ en. stopped sys p h (part_of s t p) (desk_back (s.cells t) r1.0 (segment_of sys g).actor) en g.body.children (segment_of sys g) (holds_as_peek (r1.0).held p)) ((s.columns p).store h) r.0 r1.2 in
+      let r1 = then_some (λ ev. option_and_then (λ en. after_stop sys p h (part_of s t p) (desk_back (s.cells t) ev (segment_of sys g).actor) en g.body.children (segment_of sys g) (holds_as_peek ev.held p)) ((s.columns p).store h)) (s.cells t).event r.0 r.1 in
+      let r2 = then_some (λ en. after_stop sys p h (part_of s t p) (desk_back (s.cells t) r1.0 (segment_of sys g).actor) en g.body.children (segment_of sys g) (holds_as_peek (r1.0).held p)) ((s.columns p).store h) r.0 r1.2 in
       let peek : holds_as_peek (r1.0).held p ≡ true = subst (λ (v : Event A). holds_as_peek v.held p ≡ true) (some_same k.event r1.0 (sym k.is_event ∙ r1.1)) k.peek in
       by_pause (segment_of sys g).pause refl i.0 r1.0 r2.0 r1.1 r2.1 peek r.0
-      (subst (λ v. stopped sys p h (part_of s t p) (desk_back (s.cells t) r1.0 (segment_of sys g).actor) r2.0 g.body.children (segment_of sys g) v ≡ Some r.0) peek r2.2) r.2
+      (subst (λ v. after_stop sys p h (part_of s t p) (desk_back (s.cells t) r1.0 (segment_of sys g).actor) r2.0 g.body.children (segment_of sys g) v ≡ Some r.0) peek r2.2) r.2
     where
       by_pause : (v : Pause R) → (segment_of sys g).pause ≡ v → ((g.ticket == t) && path_eq g.path p) ≡ true → (ev : Event A) (en : Entry F) → (s.cells t).event ≡ Some ev → (s.columns p).store h ≡ Some en → holds_as_peek ev.held p ≡ true →
-          (z : Part A F R) → looked (part_of s t p) h (desk_back (s.cells t) ev (segment_of sys g).actor) en (segment_of sys g).pause ≡ Some z → y ≡ record { part = z; hand = None } → Light t (Stop t p) h (part_of s t p) (Some g) y
-      by_pause (Go q) v i ev en e1 e2 peek z l f = absurd (none_not (subst (λ u. looked (part_of s t p) h (desk_back (s.cells t) ev (segment_of sys g).actor) en u ≡ Some z) v l))
-      by_pause (Down q) v i ev en e1 e2 peek z l f = absurd (none_not (subst (λ u. looked (part_of s t p) h (desk_back (s.cells t) ev (segment_of sys g).actor) en u ≡ Some z) v l))
-      by_pause Back v i ev en e1 e2 peek z l f = absurd (none_not (subst (λ u. looked (part_of s t p) h (desk_back (s.cells t) ev (segment_of sys g).actor) en u ≡ Some z) v l))
+          (z : Part A F R) → after_look (part_of s t p) h (desk_back (s.cells t) ev (segment_of sys g).actor) en (segment_of sys g).pause ≡ Some z → y ≡ record { part = z; hand = None } → Light t (Stop t p) h (part_of s t p) (Some g) y
+      by_pause (Go q) v i ev en e1 e2 peek z l f = absurd (none_not (subst (λ u. after_look (part_of s t p) h (desk_back (s.cells t) ev (segment_of sys g).actor) en u ≡ Some z) v l))
+      by_pause (Down q) v i ev en e1 e2 peek z l f = absurd (none_not (subst (λ u. after_look (part_of s t p) h (desk_back (s.cells t) ev (segment_of sys g).actor) en u ≡ Some z) v l))
+      by_pause Back v i ev en e1 e2 peek z l f = absurd (none_not (subst (λ u. after_look (part_of s t p) h (desk_back (s.cells t) ev (segment_of sys g).actor) en u ≡ Some z) v l))
       by_pause (Over r) v i ev en e1 e2 peek z l f =
-          let k : over_here (part_of s t p) h (desk_back (s.cells t) ev (segment_of sys g).actor) en r ≡ z = some_same _ z (subst (λ u. looked (part_of s t p) h (desk_back (s.cells t) ev (segment_of sys g).actor) en u ≡ Some z) v l) in
+          let k : over_here (part_of s t p) h (desk_back (s.cells t) ev (segment_of sys g).actor) en r ≡ z = some_same _ z (subst (λ u. after_look (part_of s t p) h (desk_back (s.cells t) ev (segment_of sys g).actor) en u ≡ Some z) v l) in
           record {
             entry = en;
             store_is = e2;

@@ -5,8 +5,8 @@ use Rattle.std.proofs.lemmas.List.{length-append}
 use Rattle.wave_states.specs.States.{State, Hand}
 use Rattle.wave_states.specs.Labels.{Label}
 use Rattle.wave_states.specs.Steps.{step}
-use Rattle.wave_states.specs.Canonical.{enabled}
-use Rattle.wave_states.specs.Runs.{Rule, run, drive, keep_on, picked, IsDrive}
+use Rattle.wave_states.specs.Canonical.{enabled_labels}
+use Rattle.wave_states.specs.Runs.{Rule, run, drive, keep_on, picked_labels, IsDrive}
 use Rattle.wave_states.specs.Alone.{job_after}
 use Rattle.wave_states.specs.Begins.{Begin, start_state}
 use Rattle.wave_states.specs.Kinds.{Kind}
@@ -33,7 +33,7 @@ module _ {A F R J : Type 0} (kind : Kind A F R J) (owes : Owes kind) (b : Begin 
   start = start_state b batches
 
   abbrev list : State A F R J → List Label
-  list s = enabled kind.system workers kind.hosts s
+  list s = enabled_labels kind.system workers kind.hosts s
 
   abbrev Drives : ℕ → State A F R J → List Label → Type 0
   Drives x s ls = IsDrive kind.system workers kind.hosts rule x s ls
@@ -97,11 +97,11 @@ module _ {A F R J : Type 0} (kind : Kind A F R J) (owes : Owes kind) (b : Begin 
       ap (λ m. m ∷ ls) z ∙ ap (λ ms. k ∷ ms) (only (rule x s (list s)).0 e.1 ls ks (subst (λ u. Drives (rule x s (list s)).0 u ls) y d.3) e.3)
 
   -- and it is what is picked
-  picked_none : (more : ℕ → State A F R J → List Label) (s : State A F R J) (p : ℕ × Option Label) → p.1 ≡ None → picked kind.system workers more s p ≡ []
+  picked_none : (more : ℕ → State A F R J → List Label) (s : State A F R J) (p : ℕ × Option Label) → p.1 ≡ None → picked_labels kind.system workers more s p ≡ []
   picked_none more s (x, None) e = refl
   picked_none more s (x, Some l) e = absurd (none_not (sym e))
 
-  picked_some : (more : ℕ → State A F R J → List Label) (s v : State A F R J) (p : ℕ × Option Label) (l : Label) → p.1 ≡ Some l → step kind.system workers s l ≡ Some v → picked kind.system workers more s p ≡ l ∷ more p.0 v
+  picked_some : (more : ℕ → State A F R J → List Label) (s v : State A F R J) (p : ℕ × Option Label) (l : Label) → p.1 ≡ Some l → step kind.system workers s l ≡ Some v → picked_labels kind.system workers more s p ≡ l ∷ more p.0 v
   picked_some more s v (x, None) l e f = absurd (none_not e)
   picked_some more s v (x, Some m) l e f = (let z : m ≡ l = some_same m l e in ap (keep_on kind.system workers more x m) (ap (step kind.system workers s) z ∙ f) ∙ ap (λ k. k ∷ more x v) z)
 

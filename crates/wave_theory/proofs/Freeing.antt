@@ -5,7 +5,7 @@ use Rattle.wave_base.specs.declared.path.Path.{Path}
 use Rattle.wave_base.specs.Paths.{path_eq}
 use Rattle.wave_states.specs.Actors.{Actors}
 use Rattle.wave_states.specs.States.{State, Column, Claim, Entry, Letter, Enter, Visit, Back, Release, Transfer, Mail, set, is_coming}
-use Rattle.wave_states.specs.Steps.{Part, with_bench, with_entry, with_holders, others, landed, part_of, without_mail}
+use Rattle.wave_states.specs.Steps.{Part, with_bench, with_entry, with_holders, others, column_joined, part_of, without_mail}
 use Rattle.wave_theory.proofs.Basics.{bool_cases, clash, some_same, none_not, number_cases, not_same, path_self, path_cases, set_at, set_there, set_at_path, and_first, differ}
 use Rattle.wave_theory.proofs.Order.{Way, IsWay, rank, here, Good, freed}
 use Rattle.wave_theory.proofs.Ranks.{rank_less}
@@ -318,9 +318,9 @@ module _ {A F R J : Type 0} (sys : Actors A F R J) (w : Way) (law : IsWay w) (co
 
     pub land_shows : Shows.Shows sys w course low is_real (with_bench s t p v (record { part = y; hand = None })) land_ghost
     land_shows = subst (λ z. Shows.Shows sys w course low is_real (with_bench s t p v (record { part = z; hand = None })) land_ghost) q.gives
-        (leaves_shows s g x t k p h v [] (arrived (g.trail p)) leaves_l (landed (s.columns p) h (with_holders q.entry [])) lt la (λ e. none_not (sym e ∙ q.letter_at.mail_is)) (inr (q.entry, q.letter_at))
-        (subst (λ i. Shows.ColumnShows sys w course low is_real i land_ghost p (landed (s.columns p) h (with_holders q.entry []))) (sym born_l) (record {
-          track = subst (λ r. Track (landed (s.columns p) h (with_holders q.entry [])) r) (sym (set_at_path g.trail p (arrived (g.trail p)))) (subst (λ i. Track (landed (s.columns p) i (with_holders q.entry [])) (arrived (g.trail p))) (sym ll.0.host_is) (land_track (s.columns p) (g.trail p) (with_holders q.entry []) stays_l.track ll.1));
+        (leaves_shows s g x t k p h v [] (arrived (g.trail p)) leaves_l (column_joined (s.columns p) h (with_holders q.entry [])) lt la (λ e. none_not (sym e ∙ q.letter_at.mail_is)) (inr (q.entry, q.letter_at))
+        (subst (λ i. Shows.ColumnShows sys w course low is_real i land_ghost p (column_joined (s.columns p) h (with_holders q.entry []))) (sym born_l) (record {
+          track = subst (λ r. Track (column_joined (s.columns p) h (with_holders q.entry [])) r) (sym (set_at_path g.trail p (arrived (g.trail p)))) (subst (λ i. Track (column_joined (s.columns p) i (with_holders q.entry [])) (arrived (g.trail p))) (sym ll.0.host_is) (land_track (s.columns p) (g.trail p) (with_holders q.entry []) stays_l.track ll.1));
           there = λ z. ap (λ r. set nat_eq (s.columns p).store h (Some (with_holders q.entry [])) (owner r)) (set_at_path g.trail p (arrived (g.trail p))) ∙ ap (λ i. set nat_eq (s.columns p).store h (Some (with_holders q.entry [])) i) (sym ll.0.host_is) ∙ set_at (s.columns p).store h (Some (with_holders q.entry []))
               ∙ ap (λ e. Some (with_holders e [])) ll.2 ∙ ap Some (sym (set_at_path g.entry p (with_holders (g.entry p) [])));
         })))
@@ -329,8 +329,8 @@ module _ {A F R J : Type 0} (sys : Actors A F R J) (w : Way) (law : IsWay w) (co
     land_turn = record { deed = Deeds.Lands; suits = tt; is = refl; fits = tt; kids = λ r i a z. inl z }
 
     pub land_tally : (n : ℕ → ℕ) → Tallies.Tally sys w course low is_real g n → Tallies.Tally sys w course low is_real land_ghost (set nat_eq n t (suc (n t)))
-    land_tally n y = leaves_tally s g x t k p h v [] (arrived (g.trail p)) leaves_l (landed (s.columns p) h (with_holders q.entry [])) lt la (λ e. none_not (sym e ∙ q.letter_at.mail_is)) (inr (q.entry, q.letter_at)) n y
+    land_tally n y = leaves_tally s g x t k p h v [] (arrived (g.trail p)) leaves_l (column_joined (s.columns p) h (with_holders q.entry [])) lt la (λ e. none_not (sym e ∙ q.letter_at.mail_is)) (inr (q.entry, q.letter_at)) n y
 
     pub land_alive : Alive.Alive sys w course low is_real s g → s.hands v ≡ None → Alive.Alive sys w course low is_real (with_bench s t p v (record { part = y; hand = None })) land_ghost
     land_alive a idle = subst (λ z. Alive.Alive sys w course low is_real (with_bench s t p v (record { part = z; hand = None })) land_ghost) q.gives
-        (leaves_alive s g x t k p h v [] (arrived (g.trail p)) leaves_l (landed (s.columns p) h (with_holders q.entry [])) lt la (λ e. none_not (sym e ∙ q.letter_at.mail_is)) (inr (q.entry, q.letter_at)) refl a idle)
+        (leaves_alive s g x t k p h v [] (arrived (g.trail p)) leaves_l (column_joined (s.columns p) h (with_holders q.entry [])) lt la (λ e. none_not (sym e ∙ q.letter_at.mail_is)) (inr (q.entry, q.letter_at)) refl a idle)

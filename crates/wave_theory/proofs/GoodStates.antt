@@ -3,7 +3,7 @@ use Rattle.std.proofs.Common.{◌≡◌, ℕ, suc, ◌+◌, ◌<◌, ◌≤◌, 
 use Rattle.std.specs.Prelude.{if◌then◌else◌, slice_get}
 use Rattle.wave_base.specs.declared.path.Path.{Path}
 use Rattle.wave_states.specs.States.{State, Cell, Event, Mail, set}
-use Rattle.wave_states.specs.Steps.{Bench, with_bench, committed}
+use Rattle.wave_states.specs.Steps.{Bench, with_bench, after_commit}
 use Rattle.wave_theory.proofs.Basics.{some_same, none_not, number_cases, set_at, set_there}
 use Rattle.wave_theory.proofs.Order.{Way, IsWay}
 use Rattle.wave_theory.proofs.Leaves.{Course, IsCourse}
@@ -198,7 +198,7 @@ module _ {A F R J : Type 0} (kind : Kind A F R J) (owes : Owes kind) (b : Begin 
             (sym (ap (λ (v : View A F R). v.result (g.lines.pos t)) view_is) ∙ sym c.result ∙ e)
 
     -- a commit goes on in the fold
-    pub commit_heads : (r : R) → (s.cells (suc (b.before + s.head.done))).result ≡ Some r → Heads (committed kind.system s r)
+    pub commit_heads : (r : R) → (s.cells (suc (b.before + s.head.done))).result ≡ Some r → Heads (after_commit kind.system s r)
     commit_heads r e = record {
       head_is = ap (λ u. with_done u (kind.system.created r)) h.head_is ∙ sym next_head ∙ ap (λ n. (at n).head) (sym done_now);
       few = subst (λ n. n ≤ s.admitted) (sym done_now) (omega (arith, q.admitted, x.admitted));

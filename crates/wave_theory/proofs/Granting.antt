@@ -7,7 +7,7 @@ use Rattle.wave_base.specs.Paths.{path_eq, path_cmp}
 use Rattle.std.specs.BTreeMap.{insert_entry}
 use Rattle.wave_states.specs.Actors.{Actors}
 use Rattle.wave_states.specs.States.{State, Claim, Entry, Hold, Ready, set, hold_at}
-use Rattle.wave_states.specs.Steps.{Part, with_bench, granted, let_in, part_of}
+use Rattle.wave_states.specs.Steps.{Part, with_bench, after_grant, let_in, part_of}
 use Rattle.wave_theory.proofs.Basics.{clash, some_same, none_not, number_self, number_cases, not_same, path_is, path_self, path_cases, set_at, set_there, set_at_path}
 use Rattle.wave_theory.proofs.Order.{Way, IsWay, visits, rank, Lined, There, is_pending, here, let_at}
 use Rattle.wave_theory.proofs.Ranks.{rank_in, rank_less, rank_up_to}
@@ -227,7 +227,7 @@ module _ {A F R J : Type 0} (sys : Actors A F R J) (w : Way) (law : IsWay w) (co
               })
         ]
 
-    cell_g : Shows.CellShows sys w course low is_real gg t (granted p h (part_of s t p) q.event q.entry q.claim).cell
+    cell_g : Shows.CellShows sys w course low is_real gg t (after_grant p h (part_of s t p) q.event q.entry q.claim).cell
     cell_g = record {
       event = record { actor = q.event.actor; held = insert_entry path_cmp q.event.held p (record { host = h; peek = q.claim.peek }); sent = q.event.sent; status = Ready p };
       event_is = refl;
@@ -273,7 +273,7 @@ module _ {A F R J : Type 0} (sys : Actors A F R J) (w : Way) (law : IsWay w) (co
             (subst (λ (a : Hold). (a.host ≡ owner (g.trail p)) × ((g.trail p).stored ≡ true) × (a.peek ≡ w.looks t p)) (some_same _ i z) (fg.host_is, fg.stored, now.peek))
         where_now r i false e z = cg.where_held r i (ap (λ a. hold_at a.held r) (sym same) ∙ z)
 
-    column_g : Shows.ColumnShows sys w course low is_real (g.born p) gg p (granted p h (part_of s t p) q.event q.entry q.claim).column
+    column_g : Shows.ColumnShows sys w course low is_real (g.born p) gg p (after_grant p h (part_of s t p) q.event q.entry q.claim).column
     column_g = changed sys w course low is_real g gg p (s.columns p) h q.entry (let_in q.entry q.claim) fg refl refl (entry_now_g ∙ ap (λ z. let_in z q.claim) (sym fg.entry_is))
 
     pub grant_shows : Shows.Shows sys w course low is_real (with_bench s t p v (record { part = y; hand = None })) gg

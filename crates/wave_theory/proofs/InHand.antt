@@ -10,7 +10,7 @@ use Rattle.wave_states.specs.Actors.{Actors, Left, Over}
 use Rattle.wave_states.specs.States.{State, Cell, Entry, Event, Hand, Record, Running, hold_at, holds_as_peek, is_peek_in, steps_of, Status}
 use Rattle.wave_states.specs.States
 use Rattle.wave_states.specs.Labels.{Act, Label, Admit, Commit, Stop, is_local}
-use Rattle.wave_states.specs.Steps.{step, step_by, only_if, next_ticket, admitted, committed, act_bench, stop, stopped, looked, desk_back, segment_of, part_of, with_bench}
+use Rattle.wave_states.specs.Steps.{step, step_by, only_if, next_ticket, after_admit, after_commit, act_bench, stop, after_stop, after_look, desk_back, segment_of, part_of, with_bench}
 use Rattle.wave_states.specs.Runs.{run}
 use Rattle.wave_states.specs.Alone.{Alone, after_segments}
 use Rattle.wave_states.specs.Begins.{Begin}
@@ -118,9 +118,9 @@ module _ {A F R J : Type 0} (kind : Kind A F R J) (owes : Owes kind) (b : Begin 
             same = ap₂ (λ a f. kind.system.segment a f (steps_of hd.body.children)) (some_same _ _ (hs.actor ∙ seg.actor_is)) (hs.fields ∙ like.fields ∙ ap (λ q. (course.leaf t n q).0) hs.place)
                 ∙ ap (λ cs. kind.system.segment (seg).actor (course.leaf t n (w.place t n)).0 (steps_of cs)) (hs.bare e) ∙ sym (seg.blind (subst (λ q. w.looks t q ≡ true) hs.place e))
 
-        by : (i : Bool) → holds_as_peek (c).event.held p ≡ i → is_some (stopped kind.system p (owner ((k.ghost).trail p)) (part_of s t p) (desk_back (s.cells t) (c).event (segment_of kind.system hd).actor) ((k.ghost).entry p) hd.body.children (segment_of kind.system hd) i) ≡ true
+        by : (i : Bool) → holds_as_peek (c).event.held p ≡ i → is_some (after_stop kind.system p (owner ((k.ghost).trail p)) (part_of s t p) (desk_back (s.cells t) (c).event (segment_of kind.system hd).actor) ((k.ghost).entry p) hd.body.children (segment_of kind.system hd) i) ≡ true
         by false e = refl
-        by true e = (let z = over (sym peek_is ∙ e) in subst (λ u. is_some (looked (part_of s t p) (owner ((k.ghost).trail p)) (desk_back (s.cells t) (c).event (segment_of kind.system hd).actor) ((k.ghost).entry p) u) ≡ true) (sym z.1) refl)
+        by true e = (let z = over (sym peek_is ∙ e) in subst (λ u. is_some (after_look (part_of s t p) (owner ((k.ghost).trail p)) (desk_back (s.cells t) (c).event (segment_of kind.system hd).actor) ((k.ghost).entry p) u) ≡ true) (sym z.1) refl)
 
     pub can_stop : (workers : ℕ) → nat_lt v workers ≡ true → CanStop kind.system workers s v hd
     unfolding step
@@ -178,10 +178,10 @@ module _ {A F R J : Type 0} (sys : Actors A F R J) where
   ]
     where
       rest : (a : Act) → is_local a ≡ false → step_by sys s v host a ≡ Some s' → s'.hands u ≡ s.hands u
-      rest (Admit t) z e = (let j = then_some (λ j. only_if ((host == 0) && (t == next_ticket s)) (admitted sys s t j)) (slice_get s.head.known s.admitted) s' (idle_of _ _ s' e) in
-          ap (λ (i : State A F R J). i.hands u) (sym (only_some _ (admitted sys s t j.0) s' j.2).1))
-      rest (Commit t) z e = (let r = then_some (λ r. only_if ((host == 0) && (t == suc (s.before + s.head.done))) (committed sys s r)) (s.cells t).result s' (idle_of _ _ s' e) in
-          ap (λ (i : State A F R J). i.hands u) (sym (only_some _ (committed sys s r.0) s' r.2).1))
+      rest (Admit t) z e = (let j = then_some (λ j. only_if ((host == 0) && (t == next_ticket s)) (after_admit sys s t j)) (slice_get s.head.known s.admitted) s' (idle_of _ _ s' e) in
+          ap (λ (i : State A F R J). i.hands u) (sym (only_some _ (after_admit sys s t j.0) s' j.2).1))
+      rest (Commit t) z e = (let r = then_some (λ r. only_if ((host == 0) && (t == suc (s.before + s.head.done))) (after_commit sys s r)) (s.cells t).result s' (idle_of _ _ s' e) in
+          ap (λ (i : State A F R J). i.hands u) (sym (only_some _ (after_commit sys s r.0) s' r.2).1))
       rest a z e = absurd (clash _ refl z)
 
   pub hands_stay : HandsStay sys

@@ -6,7 +6,7 @@ use Rattle.wave_base.specs.Paths.{path_eq}
 use Rattle.wave_base.specs.Kids.{child_at}
 use Rattle.wave_states.specs.Actors.{Actors, Left}
 use Rattle.wave_states.specs.States.{State, Entry, Hand, Hold, Record, Transfer, Mail, Travelling, Ended, set, hold_at}
-use Rattle.wave_states.specs.Steps.{Part, ended, over_there, cell_of, moved_on, with_body, departed, part_of}
+use Rattle.wave_states.specs.Steps.{Part, after_end, over_there, cell_of, moved_on, with_body, column_left, part_of}
 use Rattle.wave_states.specs.Desks.{Desk, send, kept_of, left_of, nothing_kept, not_at, with_status, with_held}
 use Rattle.wave_theory.proofs.Basics.{bool_cases, clash, none_not, path_self, path_cases, set_at, set_there, set_at_path, and_first, and_second, differ}
 use Rattle.wave_theory.proofs.Order.{Way, IsWay, Done}
@@ -73,7 +73,7 @@ module _ {A F R J : Type 0} (sys : Actors A F R J) (w : Way) (law : IsWay w) (co
     abbrev zero_sent : (d : Desk A F) (m : Mail F) → (send d m).mails 0 ≡ d.mails 0
     zero_sent = Stopping.zero_sent sys w law course low is_real courses s g x hd v h hand_is y q
 
-    abbrev zero_ended : (d : Desk A F) → (ended d).mails 0 ≡ d.mails 0
+    abbrev zero_ended : (d : Desk A F) → (after_end d).mails 0 ≡ d.mails 0
     zero_ended = Stopping.zero_ended sys w law course low is_real courses s g x hd v h hand_is y q
 
     abbrev old_there : Alive.Alive sys w course low is_real s g → (r : Path) → g.lines.holds r t ≡ true → w.held t k r ≡ false → Alive.PartingThere (s.cells t).mails (g.parting t r) r × (g.parting t r ≤ q.event.sent)
@@ -116,7 +116,7 @@ module _ {A F R J : Type 0} (sys : Actors A F R J) (w : Way) (law : IsWay w) (co
 
     abbrev ended_desk : (z : Change) (d : Desk A F) (now : Path → Bool) → DeskShows sys w course low is_real (changed_by g t p z) t d now (Some (left).actor) Travelling → k ≡ w.last t →
         ((r : Path) → now r ≡ true → (w.held t k r ≡ true) × (z.parting r ≡ all_parting d.event.held d.event.sent r)) →
-        DeskShows sys w course low is_real (changed_by g t p z) t (ended d) (λ a. false) (Some (left).actor) Ended
+        DeskShows sys w course low is_real (changed_by g t p z) t (after_end d) (λ a. false) (Some (left).actor) Ended
     ended_desk = Parting.ended_desk sys w law course low is_real courses s g x hd v h hand_is y q
 
     module _ (r : R) (i : EndFacts p r) where
@@ -211,7 +211,7 @@ module _ {A F R J : Type 0} (sys : Actors A F R J) (w : Way) (law : IsWay w) (co
             body_ok = λ e. absurd (clash _ e no);
             like = like_end;
             cell = subst (λ (u : Part A F R). Shows.CellShows sys w course low is_real (changed_by g t p z_moved) t u.cell) (sym ye)
-                (ended_cell z_moved (ended (send (desk_with rest) transfer)) r
+                (ended_cell z_moved (after_end (send (desk_with rest) transfer)) r
                 (ended_desk z_moved (send (desk_with rest) transfer) (λ a. not (path_eq p a) && w.held t k a)
                 (send_desk sys w course low is_real (changed_by g t p z_moved) t (desk_with rest) (λ a. not (path_eq p a) && w.held t k a) (Some (left).actor) Travelling transfer
                 (base_desk z_moved old_m rest (λ a. not (path_eq p a) && w.held t k a) rest_now (λ a b e. let u = rest_is a b e in (u.1, trail_off_m a u.0)) (once_filter (not_at p) q.event.held once_held)) transfer_now)
@@ -225,8 +225,8 @@ module _ {A F R J : Type 0} (sys : Actors A F R J) (w : Way) (law : IsWay w) (co
               moves = ap suc moves_now ∙ ap (λ j. j.last) (sym trail_at_m);
             });
             column = subst (λ j. Shows.ColumnShows sys w course low is_real j (changed_by g t p z_moved) p y.column) (sym f.born) (subst (λ (u : Part A F R). Shows.Stays sys w course low is_real (changed_by g t p z_moved) p u.column) (sym ye) (record {
-              track = subst (λ j. Track (departed (s.columns p) h to (suc q.entry.moves)) j) (sym trail_at_m)
-                  (subst (λ j. Track (departed (s.columns p) h to (suc j)) (sent_on (g.trail p) to)) (sym moves_now) (subst (λ j. Track (departed (s.columns p) j to (suc (g.trail p).last)) (sent_on (g.trail p) to)) (sym f.host_is)
+              track = subst (λ j. Track (column_left (s.columns p) h to (suc q.entry.moves)) j) (sym trail_at_m)
+                  (subst (λ j. Track (column_left (s.columns p) h to (suc j)) (sent_on (g.trail p) to)) (sym moves_now) (subst (λ j. Track (column_left (s.columns p) j to (suc (g.trail p).last)) (sent_on (g.trail p) to)) (sym f.host_is)
                   (depart_track (s.columns p) (g.trail p) to f.stays.track f.stored (λ e. other (e ∙ sym f.host_is)))));
               there = λ e. absurd (clash _ e (ap (λ j. j.stored) trail_at_m));
             }));
@@ -247,13 +247,13 @@ module _ {A F R J : Type 0} (sys : Actors A F R J) (w : Way) (law : IsWay w) (co
             entering = λ e. absurd (done_entering e);
             coming = λ e. absurd (done_coming e);
             parting = λ b m n. subst (λ (u : Part A F R). Alive.PartingThere u.cell.mails (parting_moved b) b) (sym ye) (elim (path_cases p b) [
-              | inl d ↦ subst (λ u. Alive.PartingThere (ended (send (desk_with rest) transfer)).mails (parting_moved u) u) d (subst (λ j. Alive.PartingThere (ended (send (desk_with rest) transfer)).mails j p) (sym (ap (λ j. if j then suc q.event.sent else all_parting rest (suc q.event.sent) p) (path_self p))) (record {
+              | inl d ↦ subst (λ u. Alive.PartingThere (after_end (send (desk_with rest) transfer)).mails (parting_moved u) u) d (subst (λ j. Alive.PartingThere (after_end (send (desk_with rest) transfer)).mails j p) (sym (ap (λ j. if j then suc q.event.sent else all_parting rest (suc q.event.sent) p) (path_self p))) (record {
                 mail = transfer;
                 there = keep_release (left_of nothing_kept rest) (record { event = with_held (with_status (send (desk_with rest) transfer).event Ended) (kept_of nothing_kept rest); mails = (send (desk_with rest) transfer).mails }) (suc q.event.sent) (omega arith) ∙ set_at (s.cells t).mails (suc q.event.sent) (Some transfer);
                 path_is = refl;
                 letter = inr (entry_sent, refl);
               }))
-              | inr d ↦ subst (λ j. Alive.PartingThere (ended (send (desk_with rest) transfer)).mails j b) (sym (ap (λ j. if j then suc q.event.sent else all_parting rest (suc q.event.sent) b) d)) (give_up_there nothing_kept (record { event = with_status (send (desk_with rest) transfer).event Ended; mails = (send (desk_with rest) transfer).mails }) (g.parting t) b (elim (bool_cases (w.held t k b)) [
+              | inr d ↦ subst (λ j. Alive.PartingThere (after_end (send (desk_with rest) transfer)).mails j b) (sym (ap (λ j. if j then suc q.event.sent else all_parting rest (suc q.event.sent) b) d)) (give_up_there nothing_kept (record { event = with_status (send (desk_with rest) transfer).event Ended; mails = (send (desk_with rest) transfer).mails }) (g.parting t) b (elim (bool_cases (w.held t k b)) [
                 | inl u ↦ inl (refl, rest_now b ∙ ap (λ j. not j && w.held t k b) d ∙ u)
                 | inr u ↦ (let o = old_there a b m u in inr (rest_none b u, sent_there (desk_with rest) transfer (g.parting t b) b o.0 o.1, upto (g.parting t b) q.event.sent o.1))
               ]))

@@ -12,7 +12,7 @@ use Rattle.wave_states.specs.Begins.{Begin, start_state, is_root, has_moved}
 use Rattle.wave_states.specs.Kinds.{Kind}
 use Rattle.wave_states.specs.Owes.{Owes, IsBegin}
 use Rattle.wave_states.specs.Owners.{IsOwner, first_trail}
-use Rattle.wave_states.specs.Steps.{step, step_by, admitted, committed, only_if, next_ticket}
+use Rattle.wave_states.specs.Steps.{step, step_by, after_admit, after_commit, only_if, next_ticket}
 use Rattle.wave_states.specs.Runs.{run}
 use Rattle.wave_theory.proofs.Basics.{clash, none_not, then_some, map_some, only_some, if_some, bool_cases, options, path_cases, set_there, set_at_path, differ}
 use Rattle.wave_theory.proofs.Order.{Way, visits, Stage, Entering, Done, here}
@@ -83,11 +83,11 @@ module _ {A F R J : Type 0} (kind : Kind A F R J) (owes : Owes kind) (b : Begin 
 
       hands_off : (v host : ℕ) (a : Act) → step_by kind.system s v host a ≡ Some s' → (u : ℕ) → nat_eq v u ≡ false → s'.hands u ≡ s.hands u
       hands_off v host (Admit t) q u d =
-          let j = then_some (λ j. only_if ((host == 0) && (t == next_ticket s)) (admitted kind.system s t j)) (slice_get s.head.known s.admitted) s' (GoodStates.idle_of kind owes b batches begins jobs (s.hands v) _ s' q).1 in
-          let z = only_some ((host == 0) && (t == next_ticket s)) (admitted kind.system s t j.0) s' j.2 in ap (λ (y : State A F R J). y.hands u) (sym z.1)
+          let j = then_some (λ j. only_if ((host == 0) && (t == next_ticket s)) (after_admit kind.system s t j)) (slice_get s.head.known s.admitted) s' (GoodStates.idle_of kind owes b batches begins jobs (s.hands v) _ s' q).1 in
+          let z = only_some ((host == 0) && (t == next_ticket s)) (after_admit kind.system s t j.0) s' j.2 in ap (λ (y : State A F R J). y.hands u) (sym z.1)
       hands_off v host (Commit t) q u d =
-          let j = then_some (λ c. only_if ((host == 0) && (t == suc (s.before + s.head.done))) (committed kind.system s c)) (s.cells t).result s' (GoodStates.idle_of kind owes b batches begins jobs (s.hands v) _ s' q).1 in
-          let z = only_some ((host == 0) && (t == suc (s.before + s.head.done))) (committed kind.system s j.0) s' j.2 in ap (λ (y : State A F R J). y.hands u) (sym z.1)
+          let j = then_some (λ c. only_if ((host == 0) && (t == suc (s.before + s.head.done))) (after_commit kind.system s c)) (s.cells t).result s' (GoodStates.idle_of kind owes b batches begins jobs (s.hands v) _ s' q).1 in
+          let z = only_some ((host == 0) && (t == suc (s.before + s.head.done))) (after_commit kind.system s j.0) s' j.2 in ap (λ (y : State A F R J). y.hands u) (sym z.1)
       hands_off v host (Queue t i p) q u d = (let y = map_some _ _ s' q in ap (λ (z : State A F R J). z.hands u) y.2 ∙ set_there nat_eq s.hands v _ u d)
       hands_off v host (Grant t p) q u d = (let y = map_some _ _ s' q in ap (λ (z : State A F R J). z.hands u) y.2 ∙ set_there nat_eq s.hands v _ u d)
       hands_off v host (Labels.Visit t i p) q u d = (let y = map_some _ _ s' q in ap (λ (z : State A F R J). z.hands u) y.2 ∙ set_there nat_eq s.hands v _ u d)

@@ -5,7 +5,7 @@ use Rattle.wave_base.specs.declared.path.Path.{Path}
 use Rattle.wave_base.specs.Paths.{path_eq}
 use Rattle.wave_states.specs.Actors.{Actors}
 use Rattle.wave_states.specs.States.{State, Cell, Column, Claim, Entry, Event, Hand, Hold, Record, Letter, Enter, Visit, Back, Release, Transfer, Mail, Mark, Ask, Status, Ready, Waiting, set, hold_at, holds_as_peek, ask_in, is_coming, is_release, entry_in}
-use Rattle.wave_states.specs.Steps.{Bench, Part, Route, Forward, queue, queued, grant, granted, visit, start, started, free, pass, passed_on, land, stop, stopped, desk_back, segment_of, entry_for, route, may_join, letter_at, mail_for, only_if, ready_at, with_event, without_mail, with_entry, with_holders, others, landed, only_if}
+use Rattle.wave_states.specs.Steps.{Bench, Part, Route, Forward, queue, after_queue, grant, after_grant, visit, start, after_start, free, pass, passed_on, land, stop, after_stop, desk_back, segment_of, entry_for, route, may_join, letter_at, mail_for, only_if, ready_at, with_event, without_mail, with_entry, with_holders, others, column_joined, only_if}
 use Rattle.wave_states.specs.Desks.{with_status}
 use Rattle.wave_theory.proofs.Basics.{clash, some_same, none_not, then_some, only_some, if_some, and_first, and_second, number_is, path_is}
 
@@ -83,11 +83,11 @@ module _ {A F R : Type 0} where
     pub claim_is : entry.waiting (suc entry.served) ≡ Some claim
     pub ticket_is : claim.ticket ≡ t
     pub joins : may_join claim.peek entry.holders ≡ true
-    pub gives : granted p h x event entry claim ≡ y
+    pub gives : after_grant p h x event entry claim ≡ y
 
   pub grants : (t : ℕ) (p : Path) (h : ℕ) (x y : Part A F R) → grant t p h x ≡ Some y → Grants t p h x y
   grants t p h x y e =
-      let last : Event A → Entry F → Claim → Option (Part A F R) = λ ev en c. only_if ((c.ticket == t) && may_join c.peek en.holders) (granted p h x ev en c) in
+      let last : Event A → Entry F → Claim → Option (Part A F R) = λ ev en c. only_if ((c.ticket == t) && may_join c.peek en.holders) (after_grant p h x ev en c) in
       let a = then_some (λ ev. option_and_then (λ en. option_and_then (last ev en) (en.waiting (suc en.served))) (x.column.store h)) x.cell.event y e in
       let b = then_some (λ en. option_and_then (last a.0 en) (en.waiting (suc en.served))) (x.column.store h) y a.2 in
       let d = then_some (last a.0 b.0) ((b.0).waiting (suc (b.0).served)) y b.2 in
@@ -104,11 +104,11 @@ module _ {A F R : Type 0} where
     pub body : Record F
     pub body_is : entry.body ≡ Some body
     pub ready : event.status ≡ Ready p
-    pub gives : started t p h x event entry actor body ≡ y
+    pub gives : after_start t p h x event entry actor body ≡ y
 
   pub starts : (t : ℕ) (p : Path) (h : ℕ) (x : Part A F R) (y : Bench A F R) → start t p h x ≡ Some y → Starts t p h x y
   starts t p h x y e =
-      let last : Event A → Entry F → A → Record F → Option (Bench A F R) = λ ev en a b. only_if (ready_at ev.status p) (started t p h x ev en a b) in
+      let last : Event A → Entry F → A → Record F → Option (Bench A F R) = λ ev en a b. only_if (ready_at ev.status p) (after_start t p h x ev en a b) in
       let a = then_some (λ ev. option_and_then (λ en. option_and_then (λ ac. option_and_then (last ev en ac) en.body) ev.actor) (x.column.store h)) x.cell.event y e in
       let b = then_some (λ en. option_and_then (λ ac. option_and_then (last a.0 en ac) en.body) (a.0).actor) (x.column.store h) y a.2 in
       let d = then_some (λ ac. option_and_then (last a.0 b.0 ac) (b.0).body) (a.0).actor y b.2 in
@@ -133,11 +133,11 @@ module _ {A F R : Type 0} where
   pub record Lands (k : ℕ) (p : Path) (h : ℕ) (x y : Part A F R) : Type 0 where
     pub entry : Entry F
     pub letter_at : LetterIs (x.cell.mails k) h p (Transfer entry)
-    pub gives : record { cell = without_mail x.cell k; column = landed x.column h (with_holders entry []) } ≡ y
+    pub gives : record { cell = without_mail x.cell k; column = column_joined x.column h (with_holders entry []) } ≡ y
 
   pub lands : (k : ℕ) (p : Path) (h : ℕ) (x y : Part A F R) → land k p h x ≡ Some y → Lands k p h x y
   lands k p h x y e =
-      let last : Entry F → Option (Part A F R) = λ en. Some (record { cell = without_mail x.cell k; column = landed x.column h (with_holders en []) }) in
+      let last : Entry F → Option (Part A F R) = λ en. Some (record { cell = without_mail x.cell k; column = column_joined x.column h (with_holders en []) }) in
       let a = then_some (λ m. option_and_then last (entry_in m)) (mail_for h p (x.cell.mails k)) y e in
       let b = then_some last (entry_in a.0) y a.2 in
       record { entry = b.0; letter_at = subst (LetterIs (x.cell.mails k) h p) (entry_is a.0 b.0 b.1) (letter_of _ h p a.0 a.1); gives = some_same _ y b.2 }
@@ -182,11 +182,11 @@ module _ {A F R J : Type 0} (sys : Actors A F R J) where
     pub letter_at : LetterIs (x.cell.mails k) h p (Enter ask)
     pub entry : Entry F
     pub entry_is : entry_for sys p h x.column (route x.column h ask.followed) ≡ Some entry
-    pub gives : queued t k p h x event ask entry ≡ y
+    pub gives : after_queue t k p h x event ask entry ≡ y
 
   pub queues : (t k : ℕ) (p : Path) (h : ℕ) (x y : Part A F R) → queue sys t k p h x ≡ Some y → Queues t k p h x y
   queues t k p h x y e =
-      let last : Event A → Ask → Entry F → Option (Part A F R) = λ ev a en. Some (queued t k p h x ev a en) in
+      let last : Event A → Ask → Entry F → Option (Part A F R) = λ ev a en. Some (after_queue t k p h x ev a en) in
       let a = then_some (λ ev. option_and_then (λ m. option_and_then (λ a. option_and_then (last ev a) (entry_for sys p h x.column (route x.column h a.followed))) (ask_in m)) (mail_for h p (x.cell.mails k))) x.cell.event y e in
       let b = then_some (λ m. option_and_then (λ q. option_and_then (last a.0 q) (entry_for sys p h x.column (route x.column h q.followed))) (ask_in m)) (mail_for h p (x.cell.mails k)) y a.2 in
       let d = then_some (λ q. option_and_then (last a.0 q) (entry_for sys p h x.column (route x.column h q.followed))) (ask_in b.0) y b.2 in
@@ -198,11 +198,11 @@ module _ {A F R J : Type 0} (sys : Actors A F R J) where
     pub event_is : x.cell.event ≡ Some event
     pub entry : Entry F
     pub entry_is : x.column.store h ≡ Some entry
-    pub gives : stopped sys p h x (desk_back x.cell event (segment_of sys g).actor) entry g.body.children (segment_of sys g) (holds_as_peek event.held p) ≡ Some y
+    pub gives : after_stop sys p h x (desk_back x.cell event (segment_of sys g).actor) entry g.body.children (segment_of sys g) (holds_as_peek event.held p) ≡ Some y
 
   pub stopping : (t : ℕ) (p : Path) (h : ℕ) (g : Hand A F) (x y : Part A F R) → stop sys p h g x ≡ Some y → Stopping t p h g x y
   stopping t p h g x y e =
-      let last : Event A → Entry F → Option (Part A F R) = λ ev en. stopped sys p h x (desk_back x.cell ev (segment_of sys g).actor) en g.body.children (segment_of sys g) (holds_as_peek ev.held p) in
+      let last : Event A → Entry F → Option (Part A F R) = λ ev en. after_stop sys p h x (desk_back x.cell ev (segment_of sys g).actor) en g.body.children (segment_of sys g) (holds_as_peek ev.held p) in
       let a = then_some (λ ev. option_and_then (last ev) (x.column.store h)) x.cell.event y e in
       let b = then_some (last a.0) (x.column.store h) y a.2 in
       record { event = a.0; event_is = a.1; entry = b.0; entry_is = b.1; gives = b.2 }

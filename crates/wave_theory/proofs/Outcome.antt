@@ -7,7 +7,7 @@ use Rattle.wave_base.specs.declared.children.Child.{Child}
 use Rattle.wave_base.specs.Paths.{path_eq, is_above, parent_of}
 use Rattle.wave_states.specs.Actors.{Actors, Pause, Go, Down, Over}
 use Rattle.wave_states.specs.States.{Claim, Entry, Event, Hand, Hold, Letter, Enter, Visit, Release, Transfer, Mail, Ask, Travelling, Ended, set, hold_at, holds_as_peek}
-use Rattle.wave_states.specs.Steps.{Part, keep_below, into_child, ended, with_body, with_entry, put_back, over_here, over_there, over_by, paused, stopped, looked, desk_back, host_or, moved_on, segment_of}
+use Rattle.wave_states.specs.Steps.{Part, keep_below, into_child, after_end, with_body, with_entry, put_back, over_here, over_there, over_by, after_pause, after_stop, after_look, desk_back, host_or, moved_on, segment_of}
 use Rattle.wave_states.specs.Desks.{Desk, send, release, give_up, kept_of, left_of, nothing_kept, not_at, with_held, with_status}
 use Rattle.wave_theory.proofs.Basics.{clash, some_same, none_not, bool_cases, number_cases, set_at, set_there, path_is, not_same}
 use Rattle.wave_theory.proofs.Opened.{Stopping}
@@ -159,7 +159,7 @@ module _ {A F R J : Type 0} (sys : Actors A F R J) where
 
     over : (e : Entry F) → e.holders ≡ en.holders → (r : R) → Fine (over_here x h d e r)
     over e k r = (let g = given_up nothing_kept (record { event = with_status (d).event Ended; mails = (d).mails }) in record {
-      after = (ended d).event;
+      after = (after_end d).event;
       after_is = refl;
       goes = inr (g.1, g.0);
       mails = adds_give (Carries {F = F} en.holders) x.cell.mails nothing_kept (record { event = with_status (d).event Ended; mails = (d).mails }) free_of no_change;
@@ -170,7 +170,7 @@ module _ {A F R J : Type 0} (sys : Actors A F R J) where
     away : (e : Entry F) → e.holders ≡ en.holders → (r : R) (to : ℕ) → to ≢ h → Fine (over_there p x h d e r to)
     away e k r to other = (let d' : Desk A F = send (record { event = with_held (d).event (kept_of (not_at p) event.held); mails = (d).mails }) (record { host = to; path = p; letter = Transfer (moved_on e) }) in
         let g = given_up nothing_kept (record { event = with_status d'.event Ended; mails = d'.mails }) in record {
-          after = (ended d').event;
+          after = (after_end d').event;
           after_is = refl;
           goes = inr (g.1, g.0 ∙ plus _ _ _ (one_left p event.held once held));
           mails = adds_give (Carries {F = F} en.holders) x.cell.mails nothing_kept (record { event = with_status d'.event Ended; mails = d'.mails }) free_of (adds_send (Carries {F = F} en.holders) x.cell.mails (record { event = with_held (d).event (kept_of (not_at p) event.held); mails = (d).mails }) _ (λ u z. ap (λ (v : Entry F). v.holders) (sym (transfer_is _ _ z)) ∙ k) no_change);
@@ -195,7 +195,7 @@ module _ {A F R J : Type 0} (sys : Actors A F R J) where
         by true z = over e k r
         by false z = away e k r m.1 (not_same m.1 h z)
 
-    pauses : (peek : Bool) (u : Pause R) → Fine (paused sys p h x d en f cs peek u)
+    pauses : (peek : Bool) (u : Pause R) → Fine (after_pause sys p h x d en f cs peek u)
     pauses peek (Go s) = go s peek (hold_at event.held (p ++ s ∷ []))
     pauses peek (Down s) = down s false (hold_at event.held (p ++ s ∷ []))
     pauses peek Pause.Back = record {
@@ -208,7 +208,7 @@ module _ {A F R J : Type 0} (sys : Actors A F R J) where
     }
     pauses peek (Over r) = over_one (with_body en (Some (record { fields = f; children = cs }))) refl r (sys.moved r)
 
-    looking : (u : Pause R) (y : Part A F R) → looked x h d en u ≡ Some y → Fine y
+    looking : (u : Pause R) (y : Part A F R) → after_look x h d en u ≡ Some y → Fine y
     looking (Over r) y e = subst Fine (some_same _ y e) (over en refl r)
     looking (Go s) y e = absurd (none_not e)
     looking (Down s) y e = absurd (none_not e)
@@ -217,6 +217,6 @@ module _ {A F R J : Type 0} (sys : Actors A F R J) where
   pub outcome : (t : ℕ) (p : Path) (h : ℕ) (g : Hand A F) (x y : Part A F R) (q : Stopping sys t p h g x y) → Once q.event.held → is_some (hold_at q.event.held p) ≡ true → Outcome p x q.event q.entry h y
   outcome t p h g x y q once held = by (holds_as_peek q.event.held p) q.gives
     where
-      by : (i : Bool) → stopped sys p h x (desk_back x.cell q.event (segment_of sys g).actor) q.entry g.body.children (segment_of sys g) i ≡ Some y → Outcome p x q.event q.entry h y
+      by : (i : Bool) → after_stop sys p h x (desk_back x.cell q.event (segment_of sys g).actor) q.entry g.body.children (segment_of sys g) i ≡ Some y → Outcome p x q.event q.entry h y
       by true e = looking p x q.event q.entry h (segment_of sys g).fields g.body.children (segment_of sys g).actor once held (segment_of sys g).pause y e
       by false e = subst (Outcome p x q.event q.entry h) (some_same _ y e) (pauses p x q.event q.entry h (segment_of sys g).fields g.body.children (segment_of sys g).actor once held (sys.peeks (segment_of sys g).actor) (segment_of sys g).pause)

@@ -6,7 +6,7 @@ use Rattle.wave_base.specs.Paths.{path_eq}
 use Rattle.wave_base.specs.Kids.{child_at}
 use Rattle.wave_states.specs.Actors.{Actors, Left}
 use Rattle.wave_states.specs.States.{State, Claim, Entry, Hand, Hold, Record, Travelling, Ended, set, hold_at, steps_of}
-use Rattle.wave_states.specs.Steps.{Part, ended, over_here, cell_of, with_body, part_of}
+use Rattle.wave_states.specs.Steps.{Part, after_end, over_here, cell_of, with_body, part_of}
 use Rattle.wave_states.specs.Desks.{Desk, left_of, nothing_kept, with_status}
 use Rattle.wave_theory.proofs.Basics.{bool_cases, clash, set_at, set_at_path}
 use Rattle.wave_theory.proofs.Order.{Way, IsWay, Done, is_pending, here}
@@ -76,7 +76,7 @@ module _ {A F R J : Type 0} (sys : Actors A F R J) (w : Way) (law : IsWay w) (co
     abbrev Lives : (z : Change) → Type 0
     Lives = Stopping.Lives sys w law course low is_real courses s g x hd v h hand_is y q
 
-    abbrev zero_ended : (d : Desk A F) → (ended d).mails 0 ≡ d.mails 0
+    abbrev zero_ended : (d : Desk A F) → (after_end d).mails 0 ≡ d.mails 0
     zero_ended = Stopping.zero_ended sys w law course low is_real courses s g x hd v h hand_is y q
 
     abbrev old_there : Alive.Alive sys w course low is_real s g → (r : Path) → g.lines.holds r t ≡ true → w.held t k r ≡ false → Alive.PartingThere (s.cells t).mails (g.parting t r) r × (g.parting t r ≤ q.event.sent)
@@ -154,13 +154,13 @@ module _ {A F R J : Type 0} (sys : Actors A F R J) (w : Way) (law : IsWay w) (co
 
     pub ended_desk : (z : Change) (d : Desk A F) (now : Path → Bool) → DeskShows sys w course low is_real (changed_by g t p z) t d now (Some (left).actor) Travelling → k ≡ w.last t →
         ((r : Path) → now r ≡ true → (w.held t k r ≡ true) × (z.parting r ≡ all_parting d.event.held d.event.sent r)) →
-        DeskShows sys w course low is_real (changed_by g t p z) t (ended d) (λ a. false) (Some (left).actor) Ended
+        DeskShows sys w course low is_real (changed_by g t p z) t (after_end d) (λ a. false) (Some (left).actor) Ended
     ended_desk z d now x last e = give_up_desk sys w course low is_real (changed_by g t p z) t nothing_kept (record { event = with_status d.event Ended; mails = d.mails }) now (Some (left).actor) Ended (λ r. g.parting t r)
         (record { actor = x.actor; status = refl; held = x.held; where_held = x.where_held; once = x.once; mails = x.mails; unused = x.unused })
         (λ r a m. (holds_held r (e r m).0, ap (λ j. w.held t j r) (set_at g.lines.pos t (suc k)) ∙ nothing_held last r, sym (e r m).1 ∙ sym (ap (λ j. j r) (set_at g.parting t z.parting))))
 
     -- what is under way when the event has ended
-    end_parting : Alive.Alive sys w course low is_real s g → (r : Path) → g.lines.holds r t ≡ true → Alive.PartingThere (ended (desk_with q.event.held)).mails (all_parting q.event.held q.event.sent r) r
+    end_parting : Alive.Alive sys w course low is_real s g → (r : Path) → g.lines.holds r t ≡ true → Alive.PartingThere (after_end (desk_with q.event.held)).mails (all_parting q.event.held q.event.sent r) r
     end_parting a r h = give_up_there nothing_kept (record { event = with_status (desk_with q.event.held).event Ended; mails = (s.cells t).mails }) (g.parting t) r (elim (bool_cases (w.held t k r)) [
       | inl u ↦ inl (refl, held_is r ∙ u)
       | inr u ↦ (let o = old_there a r h u in inr (option_none _ (held_is r ∙ u), o.0, o.1))
@@ -188,7 +188,7 @@ module _ {A F R J : Type 0} (sys : Actors A F R J) (w : Way) (law : IsWay w) (co
           body_ok = λ e. refl;
           like = subst (Shows.Like sys w course low is_real (g.body p)) (sym (i.unchanged on)) like;
           cell = subst (λ (u : Part A F R). Shows.CellShows sys w course low is_real (changed_by g t p z_look) t u.cell) (sym ye)
-              (ended_cell z_look (ended (desk_with q.event.held)) r
+              (ended_cell z_look (after_end (desk_with q.event.held)) r
               (ended_desk z_look (desk_with q.event.held) (λ a. w.held t k a) (base_desk z_look (record { trail = λ a m n. refl; parting = λ a e. all_off q.event.held q.event.sent a (option_none _ (held_is a ∙ e)) }) q.event.held (λ a. w.held t k a) held_is (λ a b e. (e, refl)) once_held) i.last_is (λ a m. (m, refl))) refl i.last_is i.result_is);
           entry = record {
             served = ap (λ (u : Entry F). u.served) entry_now ∙ en.served;
@@ -261,7 +261,7 @@ module _ {A F R J : Type 0} (sys : Actors A F R J) (w : Way) (law : IsWay w) (co
           body_ok = λ e. absurd (clash _ e no);
           like = like_end;
           cell = subst (λ (u : Part A F R). Shows.CellShows sys w course low is_real (changed_by g t p z_end) t u.cell) (sym ye)
-              (ended_cell z_end (ended (desk_with q.event.held)) r
+              (ended_cell z_end (after_end (desk_with q.event.held)) r
               (ended_desk z_end (desk_with q.event.held) (λ a. w.held t k a) (base_desk z_end (record { trail = λ a m n. refl; parting = λ a e. all_off q.event.held q.event.sent a (option_none _ (held_is a ∙ e)) }) q.event.held (λ a. w.held t k a) held_is (λ a b e. (e, refl)) once_held) i.last_is (λ a m. (m, refl))) refl i.last_is i.result_is);
           entry = entry_back z_end (record {
             looks = no;

@@ -10,7 +10,7 @@ use Rattle.wave_states.specs.Begins.{Begin}
 use Rattle.wave_states.specs.Kinds.{Kind}
 use Rattle.wave_states.specs.Owes.{Owes, IsBegin}
 use Rattle.wave_states.specs.Alone.{job_after}
-use Rattle.wave_states.specs.Steps.{Bench, Part, step_by, act_bench, with_hand, with_bench, part_of, admitted, committed, only_if, next_ticket, route_by, Forward}
+use Rattle.wave_states.specs.Steps.{Bench, Part, step_by, act_bench, with_hand, with_bench, part_of, after_admit, after_commit, only_if, next_ticket, route_by, Forward}
 use Rattle.wave_states.specs.Steps
 use Rattle.wave_theory.proofs.Basics.{clash, none_not, some_same, then_some, map_some, only_some, number_cases, not_same, set_at, set_there}
 use Rattle.wave_theory.proofs.Order.{Way, IsWay, Stage, Entering, Lined, Coming, There, Done, is_pending}
@@ -109,12 +109,12 @@ module _ {A F R J : Type 0} (kind : Kind A F R J) (owes : Owes kind) (b : Begin 
     -- the cells of other tickets stay
     pub cells_off : (s s' : State A F R J) (v host : ℕ) (a : Act) → step_by kind.system s v host a ≡ Some s' → (u : ℕ) → nat_eq (ticket_of a) u ≡ false → s'.cells u ≡ s.cells u
     cells_off s s' v host (Admit t) e u n =
-        let j = then_some (λ j. only_if ((host == 0) && (t == next_ticket s)) (admitted kind.system s t j)) (Rattle.std.specs.Prelude.slice_get s.head.known s.admitted) s' (GoodStates.idle_of kind owes b batches begins jobs (s.hands v) _ s' e).1 in
-        let o = only_some ((host == 0) && (t == next_ticket s)) (admitted kind.system s t j.0) s' j.2 in
+        let j = then_some (λ j. only_if ((host == 0) && (t == next_ticket s)) (after_admit kind.system s t j)) (Rattle.std.specs.Prelude.slice_get s.head.known s.admitted) s' (GoodStates.idle_of kind owes b batches begins jobs (s.hands v) _ s' e).1 in
+        let o = only_some ((host == 0) && (t == next_ticket s)) (after_admit kind.system s t j.0) s' j.2 in
         ap (λ (y : State A F R J). y.cells u) (sym o.1) ∙ set_there nat_eq s.cells t _ u n
     cells_off s s' v host (Commit t) e u n =
-        let r = then_some (λ r. only_if ((host == 0) && (t == suc (s.before + s.head.done))) (committed kind.system s r)) (s.cells t).result s' (GoodStates.idle_of kind owes b batches begins jobs (s.hands v) _ s' e).1 in
-        let o = only_some ((host == 0) && (t == suc (s.before + s.head.done))) (committed kind.system s r.0) s' r.2 in
+        let r = then_some (λ r. only_if ((host == 0) && (t == suc (s.before + s.head.done))) (after_commit kind.system s r)) (s.cells t).result s' (GoodStates.idle_of kind owes b batches begins jobs (s.hands v) _ s' e).1 in
+        let o = only_some ((host == 0) && (t == suc (s.before + s.head.done))) (after_commit kind.system s r.0) s' r.2 in
         ap (λ (y : State A F R J). y.cells u) (sym o.1)
     cells_off s s' v host (Queue t k p) e u n = (let y = map_some _ _ s' e in ap (λ (z : State A F R J). z.cells u) y.2 ∙ set_there nat_eq s.cells t _ u n)
     cells_off s s' v host (Grant t p) e u n = (let y = map_some _ _ s' e in ap (λ (z : State A F R J). z.cells u) y.2 ∙ set_there nat_eq s.cells t _ u n)
@@ -137,8 +137,8 @@ module _ {A F R J : Type 0} (kind : Kind A F R J) (owes : Owes kind) (b : Begin 
     -- what a label that leaves a ticket's Enter does to its mails
     pub mails_kept : (s s' : State A F R J) (v host : ℕ) (a : Act) → step_by kind.system s v host a ≡ Some s' → is_pass a ≡ false → (Deeds.Suits a Deeds.Rests) ⊎ (Deeds.Suits a Deeds.Lands) → (i : ℕ) (m : Mail F) → (s'.cells (ticket_of a)).mails i ≡ Some m → (s.cells (ticket_of a)).mails i ≡ Some m
     mails_kept s s' v host (Commit t) e np r i m f =
-        let q = then_some (λ q. only_if ((host == 0) && (t == suc (s.before + s.head.done))) (committed kind.system s q)) (s.cells t).result s' (GoodStates.idle_of kind owes b batches begins jobs (s.hands v) _ s' e).1 in
-        let o = only_some ((host == 0) && (t == suc (s.before + s.head.done))) (committed kind.system s q.0) s' q.2 in
+        let q = then_some (λ q. only_if ((host == 0) && (t == suc (s.before + s.head.done))) (after_commit kind.system s q)) (s.cells t).result s' (GoodStates.idle_of kind owes b batches begins jobs (s.hands v) _ s' e).1 in
+        let o = only_some ((host == 0) && (t == suc (s.before + s.head.done))) (after_commit kind.system s q.0) s' q.2 in
         ap (λ (y : State A F R J). (y.cells t).mails i) o.1 ∙ f
     mails_kept s s' v host (Start t p) e np r i m f = (let y = map_some _ _ s' e in by (s.hands v) y.0 y.1 y.2)
       where

@@ -4,7 +4,7 @@ use Rattle.std.specs.Prelude.{if◌then◌else◌}
 use Rattle.wave_base.specs.declared.path.Path.{Path}
 use Rattle.wave_states.specs.Actors.{Actors}
 use Rattle.wave_states.specs.States.{State, Enter, Mail, set}
-use Rattle.wave_states.specs.Steps.{Part, Route, Forward, with_bench, admitted, part_of}
+use Rattle.wave_states.specs.Steps.{Part, Route, Forward, with_bench, after_admit, part_of}
 use Rattle.wave_theory.proofs.Basics.{some_same, none_not, number_cases, set_at, set_there, differ}
 use Rattle.wave_theory.proofs.Order.{Way, IsWay}
 use Rattle.wave_theory.proofs.Leaves.{Course, IsCourse}

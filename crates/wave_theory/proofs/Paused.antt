@@ -5,7 +5,7 @@ use Rattle.wave_base.specs.declared.path.Step.{Step}
 use Rattle.wave_base.specs.declared.path.Path.{Path}
 use Rattle.wave_states.specs.Actors.{Actors, Left, Pause, Go, Down, Over}
 use Rattle.wave_states.specs.States.{State, Hand, Hold, hold_at, holds_as_peek, set}
-use Rattle.wave_states.specs.Steps.{Part, with_bench, stopped, looked, paused, into_child, over_here, over_there, over_by, put_back, desk_back, with_body, part_of}
+use Rattle.wave_states.specs.Steps.{Part, with_bench, after_stop, after_look, after_pause, into_child, over_here, over_there, over_by, put_back, desk_back, with_body, part_of}
 use Rattle.wave_states.specs.Desks.{Desk}
 use Rattle.wave_theory.proofs.Basics.{bool_cases, some_same, number_self, number_cases, not_same}
 use Rattle.wave_theory.proofs.Order.{Way, IsWay}
@@ -52,9 +52,9 @@ module _ {A F R J : Type 0} (sys : Actors A F R J) (w : Way) (law : IsWay w) (co
     abbrev desk : Desk A F
     desk = Stopping.desk_with sys w law course low is_real courses s g x hd v h hand_is y q q.event.held
 
-    gives : stopped sys p h (part_of s t p) desk q.entry hd.body.children left (w.looks t p) ≡ Some y
-    gives = subst (λ i. stopped sys p h (part_of s t p) desk q.entry hd.body.children left i ≡ Some y) (Stopping.peek_is sys w law course low is_real courses s g x hd v h hand_is y q)
-        (subst (λ (l : Left A F R). stopped sys p h (part_of s t p) (desk_back (s.cells t) q.event l.actor) q.entry hd.body.children l (holds_as_peek q.event.held p) ≡ Some y) (Stopping.segment_is sys w law course low is_real courses s g x hd v h hand_is y q) q.gives)
+    gives : after_stop sys p h (part_of s t p) desk q.entry hd.body.children left (w.looks t p) ≡ Some y
+    gives = subst (λ i. after_stop sys p h (part_of s t p) desk q.entry hd.body.children left i ≡ Some y) (Stopping.peek_is sys w law course low is_real courses s g x hd v h hand_is y q)
+        (subst (λ (l : Left A F R). after_stop sys p h (part_of s t p) (desk_back (s.cells t) q.event l.actor) q.entry hd.body.children l (holds_as_peek q.event.held p) ≡ Some y) (Stopping.segment_is sys w law course low is_real courses s g x hd v h hand_is y q) q.gives)
 
     follows : (u : Pause R) → (left).pause ≡ u → Follows sys w course t (g.lines.pos t) left u
     follows u e = subst (Follows sys w course t (g.lines.pos t) left) e seg.follows
@@ -86,23 +86,23 @@ module _ {A F R J : Type 0} (sys : Actors A F R J) (w : Way) (law : IsWay w) (co
 
     pub change : Changed
     change = elim (bool_cases (w.looks t p)) [
-      | inl looks_on ↦ looked_case looks_on (seg.ends (subst (λ r. w.looks t r ≡ true) place_is looks_on)) (subst (λ i. stopped sys p h (part_of s t p) desk q.entry hd.body.children left i ≡ Some y) looks_on gives)
-      | inr off ↦ plain_case off (left).pause refl (some_same _ y (subst (λ i. stopped sys p h (part_of s t p) desk q.entry hd.body.children left i ≡ Some y) off gives))
+      | inl looks_on ↦ looked_case looks_on (seg.ends (subst (λ r. w.looks t r ≡ true) place_is looks_on)) (subst (λ i. after_stop sys p h (part_of s t p) desk q.entry hd.body.children left i ≡ Some y) looks_on gives)
+      | inr off ↦ plain_case off (left).pause refl (some_same _ y (subst (λ i. after_stop sys p h (part_of s t p) desk q.entry hd.body.children left i ≡ Some y) off gives))
     ]
       where
-        looked_case : w.looks t p ≡ true → (r : R) × ((left).pause ≡ Over r) → looked (part_of s t p) h desk q.entry (left).pause ≡ Some y → Changed
+        looked_case : w.looks t p ≡ true → (r : R) × ((left).pause ≡ Over r) → after_look (part_of s t p) h desk q.entry (left).pause ≡ Some y → Changed
         looked_case looks_on r e = (let i = Parting.end_facts sys w law course low is_real courses s g x hd v h hand_is y q r.0 (follows (Over r.0) r.1) in
-            (Parting.z_look sys w law course low is_real courses s g x hd v h hand_is y q r.0 i looks_on, Parting.is_look sys w law course low is_real courses s g x hd v h hand_is y q r.0 i looks_on (sym (some_same _ y (subst (λ u. looked (part_of s t p) h desk q.entry u ≡ Some y) r.1 e))), Parting.lives_look sys w law course low is_real courses s g x hd v h hand_is y q r.0 i looks_on (sym (some_same _ y (subst (λ u. looked (part_of s t p) h desk q.entry u ≡ Some y) r.1 e))), Parting.turn_look sys w law course low is_real courses s g x hd v h hand_is y q r.0 i looks_on))
+            (Parting.z_look sys w law course low is_real courses s g x hd v h hand_is y q r.0 i looks_on, Parting.is_look sys w law course low is_real courses s g x hd v h hand_is y q r.0 i looks_on (sym (some_same _ y (subst (λ u. after_look (part_of s t p) h desk q.entry u ≡ Some y) r.1 e))), Parting.lives_look sys w law course low is_real courses s g x hd v h hand_is y q r.0 i looks_on (sym (some_same _ y (subst (λ u. after_look (part_of s t p) h desk q.entry u ≡ Some y) r.1 e))), Parting.turn_look sys w law course low is_real courses s g x hd v h hand_is y q r.0 i looks_on))
 
-        plain_case : w.looks t p ≡ false → (u : Pause R) → (left).pause ≡ u → paused sys p h (part_of s t p) desk q.entry (left).fields hd.body.children (sys.peeks (left).actor) (left).pause ≡ y → Changed
+        plain_case : w.looks t p ≡ false → (u : Pause R) → (left).pause ≡ u → after_pause sys p h (part_of s t p) desk q.entry (left).fields hd.body.children (sys.peeks (left).actor) (left).pause ≡ y → Changed
         plain_case off (Go st) e k = into_it st (sys.peeks (left).actor) true (GoingOn.go_facts sys w law course low is_real courses s g x hd v h hand_is y q st (follows (Go st) e)) (hold_at q.event.held (p ++ st ∷ [])) refl
-            (sym k ∙ ap (paused sys p h (part_of s t p) desk q.entry (left).fields hd.body.children (sys.peeks (left).actor)) e)
+            (sym k ∙ ap (after_pause sys p h (part_of s t p) desk q.entry (left).fields hd.body.children (sys.peeks (left).actor)) e)
         plain_case off (Down st) e k = into_it st false false (GoingOn.down_facts sys w law course low is_real courses s g x hd v h hand_is y q st (follows (Down st) e)) (hold_at q.event.held (p ++ st ∷ [])) refl
-            (sym k ∙ ap (paused sys p h (part_of s t p) desk q.entry (left).fields hd.body.children (sys.peeks (left).actor)) e)
+            (sym k ∙ ap (after_pause sys p h (part_of s t p) desk q.entry (left).fields hd.body.children (sys.peeks (left).actor)) e)
         plain_case off Pause.Back e k = (let i = GoingOn.back_facts sys w law course low is_real courses s g x hd v h hand_is y q (follows Pause.Back e) in
-            (GoingOn.z_back sys w law course low is_real courses s g x hd v h hand_is y q i, GoingOn.is_back sys w law course low is_real courses s g x hd v h hand_is y q i (sym k ∙ ap (paused sys p h (part_of s t p) desk q.entry (left).fields hd.body.children (sys.peeks (left).actor)) e), GoingOn.lives_back sys w law course low is_real courses s g x hd v h hand_is y q i (sym k ∙ ap (paused sys p h (part_of s t p) desk q.entry (left).fields hd.body.children (sys.peeks (left).actor)) e), GoingOn.turn_back sys w law course low is_real courses s g x hd v h hand_is y q i))
+            (GoingOn.z_back sys w law course low is_real courses s g x hd v h hand_is y q i, GoingOn.is_back sys w law course low is_real courses s g x hd v h hand_is y q i (sym k ∙ ap (after_pause sys p h (part_of s t p) desk q.entry (left).fields hd.body.children (sys.peeks (left).actor)) e), GoingOn.lives_back sys w law course low is_real courses s g x hd v h hand_is y q i (sym k ∙ ap (after_pause sys p h (part_of s t p) desk q.entry (left).fields hd.body.children (sys.peeks (left).actor)) e), GoingOn.turn_back sys w law course low is_real courses s g x hd v h hand_is y q i))
         plain_case off (Over r) e k = over_it off r (Parting.end_facts sys w law course low is_real courses s g x hd v h hand_is y q r (follows (Over r) e)) (sys.moved r) refl
-            (sym k ∙ ap (paused sys p h (part_of s t p) desk q.entry (left).fields hd.body.children (sys.peeks (left).actor)) e)
+            (sym k ∙ ap (after_pause sys p h (part_of s t p) desk q.entry (left).fields hd.body.children (sys.peeks (left).actor)) e)
 
     pub record Stopped_state : Type 0 where
       pub ghost : Shows.Ghost F

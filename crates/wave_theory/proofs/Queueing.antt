@@ -7,7 +7,7 @@ use Rattle.wave_base.specs.Paths.{path_eq}
 use Rattle.wave_base.specs.Kids.{child_at}
 use Rattle.wave_states.specs.Actors.{Actors}
 use Rattle.wave_states.specs.States.{State, Claim, Entry, Enter, Waiting, set, hold_at, Mail}
-use Rattle.wave_states.specs.Steps.{Part, Route, Deliver, Born, Wait, Forward, with_bench, queued, entry_for, route, in_line, with_entry, part_of, child_or_new}
+use Rattle.wave_states.specs.Steps.{Part, Route, Deliver, Born, Wait, Forward, with_bench, after_queue, entry_for, route, in_line, with_entry, part_of, child_or_new}
 use Rattle.wave_states.specs.Desks.{with_status}
 use Rattle.wave_theory.proofs.Basics.{bool_cases, clash, some_same, none_not, number_cases, not_same, path_cases, set_at, set_there, set_at_path}
 use Rattle.wave_theory.proofs.Order.{Way, IsWay, Lined, is_pending, here, staged, visits, rank}
@@ -201,7 +201,7 @@ module _ {A F R J : Type 0} (sys : Actors A F R J) (w : Way) (law : IsWay w) (co
       ];
     }
 
-    cell : Shows.CellShows sys w course low is_real g' t (queued t k p h (part_of s t p) q.event q.ask q.entry).cell
+    cell : Shows.CellShows sys w course low is_real g' t (after_queue t k p h (part_of s t p) q.event q.ask q.entry).cell
     cell = record {
       event = with_status q.event (Waiting p);
       event_is = refl;
@@ -255,8 +255,8 @@ module _ {A F R J : Type 0} (sys : Actors A F R J) (w : Way) (law : IsWay w) (co
             still : (b : ℕ) → g.lines.stage b ≡ Lined → set nat_eq g.lines.stage t Lined b ≡ Lined
             still b i = elim (number_cases t b) [ inr n ↦ set_there nat_eq g.lines.stage t Lined b n ∙ i | inl n ↦ subst (λ a. set nat_eq g.lines.stage t Lined a ≡ Lined) n stage_now ]
 
-    column : Shows.ColumnShows sys w course low is_real ((g').born p) g' p (queued t k p h (part_of s t p) q.event q.ask q.entry).column
-    column = subst (λ i. Shows.ColumnShows sys w course low is_real i g' p (queued t k p h (part_of s t p) q.event q.ask q.entry).column) (sym (set_at_path g.born p true)) where_it_is.column
+    column : Shows.ColumnShows sys w course low is_real ((g').born p) g' p (after_queue t k p h (part_of s t p) q.event q.ask q.entry).column
+    column = subst (λ i. Shows.ColumnShows sys w course low is_real i g' p (after_queue t k p h (part_of s t p) q.event q.ask q.entry).column) (sym (set_at_path g.born p true)) where_it_is.column
 
     root : (g').born [] ≡ true
     root = elim (path_cases p []) [

@@ -5,7 +5,7 @@ use Rattle.std.specs.Prelude.{if◌then◌else◌, slice_get}
 use Rattle.wave_base.specs.declared.path.Path.{Path}
 use Rattle.wave_base.specs.Paths.{path_eq}
 use Rattle.wave_states.specs.States.{State, Cell, Event, Hand, Mail, set}
-use Rattle.wave_states.specs.Steps.{Bench, Part, with_bench, stop, admit, admitted, committed, commit, part_of}
+use Rattle.wave_states.specs.Steps.{Bench, Part, with_bench, stop, admit, after_admit, after_commit, commit, part_of}
 use Rattle.wave_theory.proofs.Basics.{clash, some_same, none_not, number_is, number_cases, path_is, set_at, set_there, and_first, and_second, differ, not_same}
 use Rattle.wave_theory.proofs.Order.{Way, IsWay}
 use Rattle.wave_theory.proofs.Leaves.{Course, IsCourse}
@@ -172,8 +172,8 @@ module _ {A F R J : Type 0} (kind : Kind A F R J) (owes : Owes kind) (b : Begin 
 
     admit_next : (t : ℕ) → admit kind.system s host t ≡ Some s' → Then (Admit t)
     admit_next t e =
-        let j = then_some (λ j. only_if ((host == 0) && (t == next_ticket s)) (admitted kind.system s t j)) (slice_get s.head.known s.admitted) s' e in
-        let o = only_some ((host == 0) && (t == next_ticket s)) (admitted kind.system s t j.0) s' j.2 in
+        let j = then_some (λ j. only_if ((host == 0) && (t == next_ticket s)) (after_admit kind.system s t j)) (slice_get s.head.known s.admitted) s' e in
+        let o = only_some ((host == 0) && (t == next_ticket s)) (after_admit kind.system s t j.0) s' j.2 in
         let n : t ≡ suc g.lines.admitted = number_is t (next_ticket s) (and_second (host == 0) _ o.0) ∙ ap (λ i. suc (i + s.admitted)) x.before ∙ ap suc (sym x.admitted) in
         subst (λ u. Next s u g (total s c) (Admit t)) o.1 (record {
           turn = Admitting.admit_turn kind.system w law course b.before Is_real courses s g x j.0 (GoodStates.first_is kind owes b batches begins jobs s g x h j.0 j.1) t n;
@@ -202,8 +202,8 @@ module _ {A F R J : Type 0} (kind : Kind A F R J) (owes : Owes kind) (b : Begin 
 
     commit_next : (t : ℕ) → commit kind.system s host t ≡ Some s' → Then (Commit t)
     commit_next t e =
-        let r = then_some (λ r. only_if ((host == 0) && (t == suc (s.before + s.head.done))) (committed kind.system s r)) (s.cells t).result s' e in
-        let o = only_some ((host == 0) && (t == suc (s.before + s.head.done))) (committed kind.system s r.0) s' r.2 in
+        let r = then_some (λ r. only_if ((host == 0) && (t == suc (s.before + s.head.done))) (after_commit kind.system s r)) (s.cells t).result s' e in
+        let o = only_some ((host == 0) && (t == suc (s.before + s.head.done))) (after_commit kind.system s r.0) s' r.2 in
         let n : t ≡ suc (b.before + s.head.done) = number_is t (suc (s.before + s.head.done)) (and_second (host == 0) _ o.0) ∙ ap (λ i. suc (i + s.head.done)) x.before in
         subst (λ u. Next s u g (total s c) (Commit t)) o.1 (record {
           turn = Admitting.commit_turn kind.system w law course b.before Is_real courses s g t;

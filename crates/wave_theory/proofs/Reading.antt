@@ -7,7 +7,7 @@ use Rattle.wave_states.specs.Actors.{Actors}
 use Rattle.wave_states.specs.States.{State, Cell, Column, Hand}
 use Rattle.wave_states.specs.Labels.{Act, Label, Admit, Commit, Queue, Grant, Start, Stop, Free, Pass, Land, ticket_of, path_of, is_local}
 use Rattle.wave_states.specs.Labels
-use Rattle.wave_states.specs.Steps.{Part, Bench, step, act_bench, part_of, with_bench, admit, admitted, commit, committed, only_if, next_ticket}
+use Rattle.wave_states.specs.Steps.{Part, Bench, step, act_bench, part_of, with_bench, admit, after_admit, commit, after_commit, only_if, next_ticket}
 use Rattle.wave_theory.proofs.Basics.{clash, none_not, some_same, bool_cases, options, then_some, map_some, only_some, if_some, set_at, set_at_path, set_there, differ, path_cases, number_cases}
 use Rattle.wave_theory.proofs.Commute.{local_step}
 use Rattle.wave_theory.specs.Reads.{SameFor, SameElse, Reads, Changes}
@@ -60,28 +60,28 @@ module _ {A F R J : Type 0} (sys : Actors A F R J) where
       )
 
   -- an Admit
-  admit_same : (s v : State A F R J) (host t : ℕ) → v.head ≡ s.head → v.before ≡ s.before → v.admitted ≡ s.admitted → option_map (λ j. admitted sys v t j) (option_and_then (λ j. only_if ((host == 0) && (t == next_ticket s)) j) (slice_get s.head.known s.admitted)) ≡ admit sys v host t
-  admit_same s v host t h e a = by (slice_get s.head.known s.admitted) ∙ ap₂ (λ o n. option_and_then (λ j. only_if ((host == 0) && (t == n)) (admitted sys v t j)) o) (ap₂ (λ (u : Head J) n. slice_get u.known n) (sym h) (sym a)) (ap₂ (λ m n. suc (m + n)) (sym e) (sym a))
+  admit_same : (s v : State A F R J) (host t : ℕ) → v.head ≡ s.head → v.before ≡ s.before → v.admitted ≡ s.admitted → option_map (λ j. after_admit sys v t j) (option_and_then (λ j. only_if ((host == 0) && (t == next_ticket s)) j) (slice_get s.head.known s.admitted)) ≡ admit sys v host t
+  admit_same s v host t h e a = by (slice_get s.head.known s.admitted) ∙ ap₂ (λ o n. option_and_then (λ j. only_if ((host == 0) && (t == n)) (after_admit sys v t j)) o) (ap₂ (λ (u : Head J) n. slice_get u.known n) (sym h) (sym a)) (ap₂ (λ m n. suc (m + n)) (sym e) (sym a))
     where
-      by : (o : Option J) → option_map (λ j. admitted sys v t j) (option_and_then (λ j. only_if ((host == 0) && (t == next_ticket s)) j) o) ≡ option_and_then (λ j. only_if ((host == 0) && (t == next_ticket s)) (admitted sys v t j)) o
+      by : (o : Option J) → option_map (λ j. after_admit sys v t j) (option_and_then (λ j. only_if ((host == 0) && (t == next_ticket s)) j) o) ≡ option_and_then (λ j. only_if ((host == 0) && (t == next_ticket s)) (after_admit sys v t j)) o
       by None = refl
       by (Some j) = test ((host == 0) && (t == next_ticket s))
         where
-          test : (i : Bool) → option_map (λ j. admitted sys v t j) (only_if i j) ≡ only_if i (admitted sys v t j)
+          test : (i : Bool) → option_map (λ j. after_admit sys v t j) (only_if i j) ≡ only_if i (after_admit sys v t j)
           test true = refl
           test false = refl
 
   abbrev admit_at : State A F R J → ℕ → ℕ → Option J
   admit_at s host t = option_and_then (λ j. only_if ((host == 0) && (t == next_ticket s)) j) (slice_get s.head.known s.admitted)
 
-  commit_same : (s v : State A F R J) (host t : ℕ) → v.head ≡ s.head → v.before ≡ s.before → v.cells t ≡ s.cells t → option_map (λ r. committed sys v r) (option_and_then (λ r. only_if ((host == 0) && (t == suc (s.before + s.head.done))) r) (s.cells t).result) ≡ commit sys v host t
-  commit_same s v host t h e c = by (s.cells t).result ∙ ap₂ (λ o n. option_and_then (λ r. only_if ((host == 0) && (t == n)) (committed sys v r)) o) (ap (λ (u : Cell A F R). u.result) (sym c)) (ap₂ (λ m (u : Head J). suc (m + u.done)) (sym e) (sym h))
+  commit_same : (s v : State A F R J) (host t : ℕ) → v.head ≡ s.head → v.before ≡ s.before → v.cells t ≡ s.cells t → option_map (λ r. after_commit sys v r) (option_and_then (λ r. only_if ((host == 0) && (t == suc (s.before + s.head.done))) r) (s.cells t).result) ≡ commit sys v host t
+  commit_same s v host t h e c = by (s.cells t).result ∙ ap₂ (λ o n. option_and_then (λ r. only_if ((host == 0) && (t == n)) (after_commit sys v r)) o) (ap (λ (u : Cell A F R). u.result) (sym c)) (ap₂ (λ m (u : Head J). suc (m + u.done)) (sym e) (sym h))
     where
-      by : (o : Option R) → option_map (λ r. committed sys v r) (option_and_then (λ r. only_if ((host == 0) && (t == suc (s.before + s.head.done))) r) o) ≡ option_and_then (λ r. only_if ((host == 0) && (t == suc (s.before + s.head.done))) (committed sys v r)) o
+      by : (o : Option R) → option_map (λ r. after_commit sys v r) (option_and_then (λ r. only_if ((host == 0) && (t == suc (s.before + s.head.done))) r) o) ≡ option_and_then (λ r. only_if ((host == 0) && (t == suc (s.before + s.head.done))) (after_commit sys v r)) o
       by None = refl
       by (Some r) = test ((host == 0) && (t == suc (s.before + s.head.done)))
         where
-          test : (i : Bool) → option_map (λ r. committed sys v r) (only_if i r) ≡ only_if i (committed sys v r)
+          test : (i : Bool) → option_map (λ r. after_commit sys v r) (only_if i r) ≡ only_if i (after_commit sys v r)
           test true = refl
           test false = refl
 
@@ -110,18 +110,18 @@ module _ {A F R J : Type 0} (sys : Actors A F R J) where
       (x.0, x.2, ap (λ u. if u then (if is_none h' then option_map f' o else None) else None) i.0 ∙ ap (λ u. if is_none u then option_map f' o else None) e ∙ ap (λ u. if u then option_map f' o else None) j.0 ∙ some_map f' o x.0 x.1)
 
   admit_is : (workers : ℕ) (s v : State A F R J) (w host t : ℕ) → v.head ≡ s.head → v.before ≡ s.before → v.admitted ≡ s.admitted →
-      step sys workers v (record { worker = w; host = host; act = Admit t }) ≡ (if nat_lt w workers then (if is_none (v.hands w) then option_map (λ j. admitted sys v t j) (admit_at s host t) else None) else None)
+      step sys workers v (record { worker = w; host = host; act = Admit t }) ≡ (if nat_lt w workers then (if is_none (v.hands w) then option_map (λ j. after_admit sys v t j) (admit_at s host t) else None) else None)
   unfolding step
   admit_is workers s v w host t h e a = ap (λ o. if nat_lt w workers then (if is_none (v.hands w) then o else None) else None) (sym (admit_same s v host t h e a))
 
   commit_is : (workers : ℕ) (s v : State A F R J) (w host t : ℕ) → v.head ≡ s.head → v.before ≡ s.before → v.cells t ≡ s.cells t →
-      step sys workers v (record { worker = w; host = host; act = Commit t }) ≡ (if nat_lt w workers then (if is_none (v.hands w) then option_map (λ r. committed sys v r) (commit_at s host t) else None) else None)
+      step sys workers v (record { worker = w; host = host; act = Commit t }) ≡ (if nat_lt w workers then (if is_none (v.hands w) then option_map (λ r. after_commit sys v r) (commit_at s host t) else None) else None)
   unfolding step
   commit_is workers s v w host t h e c = ap (λ o. if nat_lt w workers then (if is_none (v.hands w) then o else None) else None) (sym (commit_same s v host t h e c))
 
   refused : (workers : ℕ) (s v : State A F R J) (w host : ℕ) (a : Act) → SameFor (record { worker = w; host = host; act = a }) s v → step sys workers s (record { worker = w; host = host; act = a }) ≡ None → step sys workers v (record { worker = w; host = host; act = a }) ≡ None
-  refused workers s v w host (Admit t) h e = admit_is workers s v w host t (h.head refl) (h.counts refl).0 (h.counts refl).1 ∙ shared workers w (admit_at s host t) (s.hands w) (v.hands w) (λ j. admitted sys s t j) (λ j. admitted sys v t j) h.hand (sym (admit_is workers s s w host t refl refl refl) ∙ e)
-  refused workers s v w host (Commit t) h e = commit_is workers s v w host t (h.head refl) (h.counts refl).0 h.cell ∙ shared workers w (commit_at s host t) (s.hands w) (v.hands w) (λ r. committed sys s r) (λ r. committed sys v r) h.hand (sym (commit_is workers s s w host t refl refl refl) ∙ e)
+  refused workers s v w host (Admit t) h e = admit_is workers s v w host t (h.head refl) (h.counts refl).0 (h.counts refl).1 ∙ shared workers w (admit_at s host t) (s.hands w) (v.hands w) (λ j. after_admit sys s t j) (λ j. after_admit sys v t j) h.hand (sym (admit_is workers s s w host t refl refl refl) ∙ e)
+  refused workers s v w host (Commit t) h e = commit_is workers s v w host t (h.head refl) (h.counts refl).0 h.cell ∙ shared workers w (commit_at s host t) (s.hands w) (v.hands w) (λ r. after_commit sys s r) (λ r. after_commit sys v r) h.hand (sym (commit_is workers s s w host t refl refl refl) ∙ e)
   refused workers s v w host (Queue t k p) h e = local_refused workers s v _ h refl e
   refused workers s v w host (Grant t p) h e = local_refused workers s v _ h refl e
   refused workers s v w host (Labels.Visit t k p) h e = local_refused workers s v _ h refl e
@@ -134,10 +134,10 @@ module _ {A F R J : Type 0} (sys : Actors A F R J) where
   taken : (workers : ℕ) (s s' v : State A F R J) (w host : ℕ) (a : Act) → SameFor (record { worker = w; host = host; act = a }) s v → step sys workers s (record { worker = w; host = host; act = a }) ≡ Some s' →
       (v' : State A F R J) × (step sys workers v (record { worker = w; host = host; act = a }) ≡ Some v') × SameFor (record { worker = w; host = host; act = a }) s' v'
   taken workers s s' v w host (Admit t) h e =
-      let x = shared_some workers w (admit_at s host t) (s.hands w) (v.hands w) (λ j. admitted sys s t j) (λ j. admitted sys v t j) s' h.hand (sym (admit_is workers s s w host t refl refl refl) ∙ e) in (
-        admitted sys v t x.0,
+      let x = shared_some workers w (admit_at s host t) (s.hands w) (v.hands w) (λ j. after_admit sys s t j) (λ j. after_admit sys v t j) s' h.hand (sym (admit_is workers s s w host t refl refl refl) ∙ e) in (
+        after_admit sys v t x.0,
         admit_is workers s v w host t (h.head refl) (h.counts refl).0 (h.counts refl).1 ∙ x.2,
-        subst (λ (u : State A F R J). SameFor (record { worker = w; host = host; act = Admit t }) u (admitted sys v t x.0)) (sym x.1) (record {
+        subst (λ (u : State A F R J). SameFor (record { worker = w; host = host; act = Admit t }) u (after_admit sys v t x.0)) (sym x.1) (record {
           cell = set_at v.cells t _ ∙ sym (set_at s.cells t _);
           hand = h.hand;
           column = λ n. absurd (clash false n refl);
@@ -146,10 +146,10 @@ module _ {A F R J : Type 0} (sys : Actors A F R J) where
         }),
       )
   taken workers s s' v w host (Commit t) h e =
-      let x = shared_some workers w (commit_at s host t) (s.hands w) (v.hands w) (λ r. committed sys s r) (λ r. committed sys v r) s' h.hand (sym (commit_is workers s s w host t refl refl refl) ∙ e) in (
-        committed sys v x.0,
+      let x = shared_some workers w (commit_at s host t) (s.hands w) (v.hands w) (λ r. after_commit sys s r) (λ r. after_commit sys v r) s' h.hand (sym (commit_is workers s s w host t refl refl refl) ∙ e) in (
+        after_commit sys v x.0,
         commit_is workers s v w host t (h.head refl) (h.counts refl).0 h.cell ∙ x.2,
-        subst (λ (u : State A F R J). SameFor (record { worker = w; host = host; act = Commit t }) u (committed sys v x.0)) (sym x.1) (record {
+        subst (λ (u : State A F R J). SameFor (record { worker = w; host = host; act = Commit t }) u (after_commit sys v x.0)) (sym x.1) (record {
           cell = h.cell;
           hand = h.hand;
           column = λ n. absurd (clash false n refl);
@@ -184,7 +184,7 @@ module _ {A F R J : Type 0} (sys : Actors A F R J) where
 
   changes_by : (workers : ℕ) (s v : State A F R J) (w host : ℕ) (a : Act) → step sys workers s (record { worker = w; host = host; act = a }) ≡ Some v → SameElse (record { worker = w; host = host; act = a }) s v
   changes_by workers s v w host (Admit t) e =
-      let x = shared_some workers w (admit_at s host t) (s.hands w) (s.hands w) (λ j. admitted sys s t j) (λ j. admitted sys s t j) v refl (sym (admit_is workers s s w host t refl refl refl) ∙ e) in
+      let x = shared_some workers w (admit_at s host t) (s.hands w) (s.hands w) (λ j. after_admit sys s t j) (λ j. after_admit sys s t j) v refl (sym (admit_is workers s s w host t refl refl refl) ∙ e) in
       subst (SameElse (record { worker = w; host = host; act = Admit t }) s) (sym x.1) (record {
         cells = λ u n. set_there nat_eq s.cells t _ u (differ t u (λ d. n (sym d)));
         hands = λ u n. refl;
@@ -194,7 +194,7 @@ module _ {A F R J : Type 0} (sys : Actors A F R J) where
         before = refl;
       })
   changes_by workers s v w host (Commit t) e =
-      let x = shared_some workers w (commit_at s host t) (s.hands w) (s.hands w) (λ r. committed sys s r) (λ r. committed sys s r) v refl (sym (commit_is workers s s w host t refl refl refl) ∙ e) in
+      let x = shared_some workers w (commit_at s host t) (s.hands w) (s.hands w) (λ r. after_commit sys s r) (λ r. after_commit sys s r) v refl (sym (commit_is workers s s w host t refl refl refl) ∙ e) in
       subst (SameElse (record { worker = w; host = host; act = Commit t }) s) (sym x.1) (record {
         cells = λ u n. refl;
         hands = λ u n. refl;

@@ -17,7 +17,7 @@ use Rattle.wave_states.specs.Labels.{Act, Label, Admit, Queue, Grant, Start, Sto
 use Rattle.wave_states.specs.Labels
 use Rattle.wave_states.specs.Begins.{Begin, start_state}
 use Rattle.wave_states.specs.Runs.{run}
-use Rattle.wave_states.specs.Steps.{Part, Bench, keep_below, into_child, with_body, put_back, over_here, over_there, over_by, paused, stopped, looked, desk_back, host_or, moved_on, segment_of, with_hand, calm, act_bench, stop, part_of, step, step_by, only_if, next_ticket, admitted, committed}
+use Rattle.wave_states.specs.Steps.{Part, Bench, keep_below, into_child, with_body, put_back, over_here, over_there, over_by, after_pause, after_stop, after_look, desk_back, host_or, moved_on, segment_of, with_hand, calm, act_bench, stop, part_of, step, step_by, only_if, next_ticket, after_admit, after_commit}
 use Rattle.wave_states.specs.Desks.{Desk, send, release, give_up, kept_of, left_of, nothing_kept, not_at, with_held, with_status}
 use Rattle.wave_theory.proofs.Basics.{some_same, none_not, bool_cases, number_cases, set_at, set_there, differ, then_some, map_some, only_some, if_some}
 use Rattle.wave_theory.proofs.Commute.{local_step}
@@ -242,13 +242,13 @@ module _ {A F R J : Type 0} (sys : Actors A F R J) where
         by true = over e r
         by false = away e r m.1
 
-    pauses : (peek : Bool) (u : Pause R) → Left (paused sys p h x d en f cs peek u)
+    pauses : (peek : Bool) (u : Pause R) → Left (after_pause sys p h x d en f cs peek u)
     pauses peek (Go s) = go s peek (hold_at event.held (p ++ s ∷ []))
     pauses peek (Down s) = down s false (hold_at event.held (p ++ s ∷ []))
     pauses peek Pause.Back = record { numbers = λ n. first_released event.sent x.cell.mails _ (λ e. back_other e) n (send d (record { host = host_or (hold_at event.held (parent_of p)) h; path = parent_of p; letter = Letter.Back })) refl refl [] none_held; held = λ e z. order_of _ e order z }
     pauses peek (Over r) = over_one (with_body en (Some (record { fields = f; children = cs }))) r (sys.moved r)
 
-    looking : (u : Pause R) (y : Part A F R) → looked x h d en u ≡ Some y → Left y
+    looking : (u : Pause R) (y : Part A F R) → after_look x h d en u ≡ Some y → Left y
     looking (Over r) y e = subst Left (some_same _ y e) (over en r)
     looking (Go s) y e = absurd (none_not e)
     looking (Down s) y e = absurd (none_not e)
@@ -257,7 +257,7 @@ module _ {A F R J : Type 0} (sys : Actors A F R J) where
   left : (t : ℕ) (p : Path) (h : ℕ) (g : Hand A F) (x y : Part A F R) (q : Stopping sys t p h g x y) (order : InOrder q.event.held) → Left p x q.event q.entry h (segment_of sys g).fields g.body.children (segment_of sys g).actor order y
   left t p h g x y q order = by (holds_as_peek q.event.held p) q.gives
     where
-      by : (i : Bool) → stopped sys p h x (desk_back x.cell q.event (segment_of sys g).actor) q.entry g.body.children (segment_of sys g) i ≡ Some y → Left p x q.event q.entry h (segment_of sys g).fields g.body.children (segment_of sys g).actor order y
+      by : (i : Bool) → after_stop sys p h x (desk_back x.cell q.event (segment_of sys g).actor) q.entry g.body.children (segment_of sys g) i ≡ Some y → Left p x q.event q.entry h (segment_of sys g).fields g.body.children (segment_of sys g).actor order y
       by true e = looking p x q.event q.entry h (segment_of sys g).fields g.body.children (segment_of sys g).actor order (segment_of sys g).pause y e
       by false e = subst (Left p x q.event q.entry h (segment_of sys g).fields g.body.children (segment_of sys g).actor order) (some_same _ y e) (pauses p x q.event q.entry h (segment_of sys g).fields g.body.children (segment_of sys g).actor order (sys.peeks (segment_of sys g).actor) (segment_of sys g).pause)
 
@@ -325,12 +325,12 @@ module _ {A F R J : Type 0} (sys : Actors A F R J) where
       by : (a : Act) → step_by sys s l.worker l.host a ≡ Some s' → AllOrder s'
       by (Admit t) k =
           let i = if_some (is_none (s.hands l.worker)) _ s' k in
-          let j = then_some (λ j. only_if ((l.host == 0) && (t == next_ticket s)) (admitted sys s t j)) (slice_get s.head.known s.admitted) s' i.1 in
-          subst AllOrder (only_some _ (admitted sys s t j.0) s' j.2).1 (set_order s.cells t _ o (λ e z. subst (λ (v : Event A). InOrder v.held) (some_same _ e z) none_held))
+          let j = then_some (λ j. only_if ((l.host == 0) && (t == next_ticket s)) (after_admit sys s t j)) (slice_get s.head.known s.admitted) s' i.1 in
+          subst AllOrder (only_some _ (after_admit sys s t j.0) s' j.2).1 (set_order s.cells t _ o (λ e z. subst (λ (v : Event A). InOrder v.held) (some_same _ e z) none_held))
       by (Commit t) k =
           let i = if_some (is_none (s.hands l.worker)) _ s' k in
-          let r = then_some (λ r. only_if ((l.host == 0) && (t == suc (s.before + s.head.done))) (committed sys s r)) (s.cells t).result s' i.1 in
-          subst AllOrder (only_some _ (committed sys s r.0) s' r.2).1 o
+          let r = then_some (λ r. only_if ((l.host == 0) && (t == suc (s.before + s.head.done))) (after_commit sys s r)) (s.cells t).result s' i.1 in
+          subst AllOrder (only_some _ (after_commit sys s r.0) s' r.2).1 o
       by (Queue t n p) k = local (Queue t n p) refl k
       by (Grant t p) k = local (Grant t p) refl k
       by (Labels.Visit t n p) k = local (Labels.Visit t n p) refl k

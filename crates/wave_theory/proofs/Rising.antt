@@ -12,7 +12,7 @@ use Rattle.wave_states.specs.Begins.{Begin}
 use Rattle.wave_states.specs.Kinds.{Kind}
 use Rattle.wave_states.specs.Owes.{Owes, IsBegin}
 use Rattle.wave_states.specs.Steps.{step, next_ticket}
-use Rattle.wave_states.specs.Canonical.{below, at_host, by_event, by_mail, to_mark, runs_it, place, by_status, grants_of, starts_of, stops_of, by_mails, mail_act, passes_of, early, stops, late, idle_in, taken_as, takes, taken_by, stop_by, enabled, enabled_for}
+use Rattle.wave_states.specs.Canonical.{below, at_host, by_event, by_mail, to_mark, runs_it, place, by_status, grants_of, starts_of, stops_of, by_mails, mail_act, passes_of, early, stops, late, idle_in, taken_as, takes, taken_by, stop_by, enabled_labels, enabled_for}
 use Rattle.wave_theory.proofs.Basics.{bool_cases, clash, number_is, and_first}
 use Rattle.wave_theory.proofs.GoodStates.{Good_state}
 use Rattle.wave_theory.specs.Listed.{kind_rank, mail_of, Before, Rising, Sorted}
@@ -329,8 +329,8 @@ module _ {A F R J : Type 0} (sys : Actors A F R J) (s : State A F R J) (hosts : 
     stops_rise (c ∷ cs) h = rising_append LabelOrder (stop_by sys workers s c) (flat_map (stop_by sys workers s) cs) (stop_one c) (stops_rise cs h.1)
         (cross (λ (x : Label). x.act ≡ c.act) (λ (x : Label). Before c.act x.act) LabelOrder (stop_by sys workers s c) (flat_map (stop_by sys workers s) cs) (stop_acts c) (all_flat (Order c) (λ (x : Label). Before c.act x.act) (stop_by sys workers s) cs h.0 (λ d o. all_with (λ (x : Label). x.act ≡ d.act) (λ (x : Label). Before c.act x.act) (stop_by sys workers s d) (λ x e. subst (Before c.act) (sym e) o) (stop_acts d))) (λ x y e q. subst (λ a. Before a y.act) (sym e) q))
 
-    pub sorted : Rising (λ (l m : Label). Before l.act m.act) (enabled sys workers hosts s)
-    unfolding enabled
+    pub sorted : Rising (λ (l m : Label). Before l.act m.act) (enabled_labels sys workers hosts s)
+    unfolding enabled_labels
     sorted = (join_labels 0 5 6 9 _ _ (omega arith) (omega arith) (omega arith) (join_labels 0 4 5 5 _ _ (omega arith) (omega arith) (omega arith) (taken_labels 0 4 (idle_in s.hands (below workers)) (early s hosts) early_run) stop_labels) (taken_labels 6 9 (idle_in s.hands (below workers)) (late s) late_run)).rising
       where
         part : IsPart 5 (by_status s (stops_of s hosts))

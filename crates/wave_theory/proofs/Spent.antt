@@ -11,7 +11,7 @@ use Rattle.wave_base.specs.PathLaws.{path_eq_ties}
 use Rattle.wave_states.specs.States.{State, Column, Claim, Entry, Event, Hand, Hold, Letter, Enter, Transfer, Mail, Ask, Travelling, Ended, set, hold_at}
 use Rattle.wave_states.specs.Labels.{Act, Admit, Queue, Grant, Start, Stop, Free, Pass, Land, Commit, ticket_of, path_of, is_local}
 use Rattle.wave_states.specs.Labels
-use Rattle.wave_states.specs.Steps.{Part, Bench, Route, Deliver, Born, Wait, Forward, act_bench, with_hand, stop, part_of, others, with_entry, entry_for, route, admitted}
+use Rattle.wave_states.specs.Steps.{Part, Bench, Route, Deliver, Born, Wait, Forward, act_bench, with_hand, stop, part_of, others, with_entry, entry_for, route, after_admit}
 use Rattle.wave_states.specs.Begins.{Begin}
 use Rattle.wave_states.specs.Kinds.{Kind}
 use Rattle.wave_states.specs.Owes.{Owes, IsBegin}

@@ -5,7 +5,7 @@ use Rattle.wave_base.specs.declared.path.Path.{Path}
 use Rattle.wave_base.specs.Paths.{path_eq}
 use Rattle.wave_states.specs.Actors.{Actors}
 use Rattle.wave_states.specs.States.{State, Entry, Event, Record, Ready, Running, set, hold_at, holds_as_peek, is_peek_in}
-use Rattle.wave_states.specs.Steps.{Bench, with_bench, started, with_body, left_by, seen_by, part_of}
+use Rattle.wave_states.specs.Steps.{Bench, with_bench, after_start, with_body, left_by, seen_by, part_of}
 use Rattle.wave_theory.proofs.Basics.{clash, some_same, none_not, some_not, path_cases, set_at, set_there, set_at_path}
 use Rattle.wave_theory.proofs.Order.{Way, IsWay, Stage, Entering, Lined, Coming, There, Done, is_pending, here, rank}
 use Rattle.wave_theory.proofs.Leaves.{Course, IsCourse}
@@ -100,7 +100,7 @@ module _ {A F R J : Type 0} (sys : Actors A F R J) (w : Way) (law : IsWay w) (co
       hand = λ u n z i. absurd (clash _ z at_it.2);
     }
 
-    cell : Shows.CellShows sys w course low is_real gs t (started t p h (part_of s t p) q.event q.entry q.actor q.body).part.cell
+    cell : Shows.CellShows sys w course low is_real gs t (after_start t p h (part_of s t p) q.event q.entry q.actor q.body).part.cell
     cell = record {
       event = record { actor = None; held = q.event.held; sent = q.event.sent; status = Running p };
       event_is = refl;
@@ -149,7 +149,7 @@ module _ {A F R J : Type 0} (sys : Actors A F R J) (w : Way) (law : IsWay w) (co
       moves = ap (λ z. z.moves) entry_now ∙ en.moves;
     }
 
-    column : Shows.ColumnShows sys w course low is_real (g.born p) gs p (started t p h (part_of s t p) q.event q.entry q.actor q.body).part.column
+    column : Shows.ColumnShows sys w course low is_real (g.born p) gs p (after_start t p h (part_of s t p) q.event q.entry q.actor q.body).part.column
     column = changed sys w course low is_real g gs p (s.columns p) h q.entry (with_body q.entry (left_by (holds_as_peek q.event.held p) q.body)) f refl refl (entry_now ∙ ap (λ z. with_body z (left_by (holds_as_peek q.event.held p) q.body)) (sym f.entry_is))
 
     seen_fields : (i : Bool) (b : Record F) → (seen_by i b).fields ≡ b.fields
@@ -177,7 +177,7 @@ module _ {A F R J : Type 0} (sys : Actors A F R J) (w : Way) (law : IsWay w) (co
     }
 
     pub start_shows : Shows.Shows sys w course low is_real (with_bench s t p v y) gs
-    start_shows = subst (λ z. Shows.Shows sys w course low is_real (with_bench s t p v z) gs) q.gives (update sys w law course low is_real s g gs t p v (started t p h (part_of s t p) q.event q.entry q.actor q.body) x frame
+    start_shows = subst (λ z. Shows.Shows sys w course low is_real (with_bench s t p v z) gs) q.gives (update sys w law course low is_real s g gs t p v (after_start t p h (part_of s t p) q.event q.entry q.actor q.body) x frame
         (record { within = x.good.within; going = x.good.going; ended = x.good.ended; is_fresh = x.good.is_fresh; sends = x.good.sends; grants = x.good.grants; first = x.good.first; let_in = x.good.let_in; keeps = x.good.keeps; alone = x.good.alone; latest = x.good.latest })
         (record { held = x.kept.held; calm = x.kept.calm }) refl lt la cell entry column (λ hd z. subst (Shows.HandShows sys w course low is_real gs v) (some_same _ hd z) hand) x.root)
 
@@ -194,7 +194,7 @@ module _ {A F R J : Type 0} (sys : Actors A F R J) (w : Way) (law : IsWay w) (co
         by false = refl
 
     pub start_alive : Alive.Alive sys w course low is_real s g → s.hands v ≡ None → Alive.Alive sys w course low is_real (with_bench s t p v y) gs
-    start_alive a idle = subst (λ z. Alive.Alive sys w course low is_real (with_bench s t p v z) gs) q.gives (Alive.alive_update sys w course low is_real s g gs t p v (started t p h (part_of s t p) q.event q.entry q.actor q.body) x frame refl la lt a
+    start_alive a idle = subst (λ z. Alive.Alive sys w course low is_real (with_bench s t p v z) gs) q.gives (Alive.alive_update sys w course low is_real s g gs t p v (after_start t p h (part_of s t p) q.event q.entry q.actor q.body) x frame refl la lt a
         (λ b cl n z vb. ap (λ (u : Entry F). u.waiting (rank w p b)) entry_now ∙ z)
         (λ hd z. absurd (none_not (sym idle ∙ z)))
         (record {

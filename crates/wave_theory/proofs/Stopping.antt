@@ -8,7 +8,7 @@ use Rattle.wave_base.specs.Paths.{path_eq, parent_of}
 use Rattle.wave_base.specs.Kids.{child_at}
 use Rattle.wave_states.specs.Actors.{Actors, Left}
 use Rattle.wave_states.specs.States.{State, Claim, Entry, Event, Hand, Hold, Record, Mail, Travelling, Ended, set, hold_at, holds_as_peek, is_peek_in, steps_of}
-use Rattle.wave_states.specs.Steps.{Part, with_bench, ended, segment_of, cell_of, part_of}
+use Rattle.wave_states.specs.Steps.{Part, with_bench, after_end, segment_of, cell_of, part_of}
 use Rattle.wave_states.specs.Desks.{Desk, send, kept_of, left_of, nothing_kept, with_status, with_held}
 use Rattle.wave_theory.proofs.Basics.{bool_cases, clash, some_same, none_not, some_not, number_cases, not_same, path_self, path_cases, set_at, set_there, set_at_path, differ}
 use Rattle.wave_theory.proofs.Order.{Way, IsWay, rank, Stage, Entering, Lined, Coming, There, is_pending, here, Good}
@@ -263,7 +263,7 @@ module _ {A F R J : Type 0} (sys : Actors A F R J) (w : Way) (law : IsWay w) (co
     pub zero_sent : (d : Desk A F) (m : Mail F) → (send d m).mails 0 ≡ d.mails 0
     zero_sent d m = set_there nat_eq d.mails (suc d.event.sent) (Some m) 0 (differ (suc d.event.sent) 0 (λ e. omega arith))
 
-    pub zero_ended : (d : Desk A F) → (ended d).mails 0 ≡ d.mails 0
+    pub zero_ended : (d : Desk A F) → (after_end d).mails 0 ≡ d.mails 0
     zero_ended d = keep_release (left_of nothing_kept d.event.held) (record { event = with_held (with_status d.event Ended) (kept_of nothing_kept d.event.held); mails = d.mails }) 0 (omega arith)
 
     -- what it gave up before

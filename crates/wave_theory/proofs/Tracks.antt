@@ -5,7 +5,7 @@ use Rattle.std.proofs.Common.{◌≡◌, ◌≢◌, ℕ, suc, ◌<◌, ◌≤◌
 use Rattle.std.specs.Prelude.{if◌then◌else◌}
 use Rattle.std.proofs.lemmas.Bool.Decides.{nat_tests}
 use Rattle.wave_states.specs.States.{set, Mark, Column, Entry}
-use Rattle.wave_states.specs.Steps.{Route, Deliver, Born, Wait, Forward, route, route_by, with_entry, departed, landed}
+use Rattle.wave_states.specs.Steps.{Route, Deliver, Born, Wait, Forward, route, route_by, with_entry, column_left, column_joined}
 use Rattle.wave_theory.proofs.Basics.{bool_cases, clash, some_same, none_not, options, number_cases, not_same, set_at, set_there, path_cases, set_at_path}
 use Rattle.wave_theory.proofs.Ranks.{le_cases}
 
@@ -102,7 +102,7 @@ module _ {F : Type 0} where
       latest : (f n : ℕ) → (n < f → ⊥) → f ≤ n
       latest f n h = grind arith
 
-  pub depart_track : (c : Column F) (t : Trail) (g : ℕ) → Track c t → t.stored ≡ true → g ≢ t.at t.last → Track (departed c (t.at t.last) g (suc t.last)) (sent_on t g)
+  pub depart_track : (c : Column F) (t : Trail) (g : ℕ) → Track c t → t.stored ≡ true → g ≢ t.at t.last → Track (column_left c (t.at t.last) g (suc t.last)) (sent_on t g)
   depart_track c t g k s other = record {
     has_moved = λ e. omega arith;
     store_is = λ h e. absurd (elim (number_cases (t.at t.last) h) [
@@ -151,7 +151,7 @@ module _ {F : Type 0} where
         | inr x ↦ v i l (less i t.last (omega arith) x) (sym (old i (omega arith)) ∙ q)
       ]
 
-  pub land_track : (c : Column F) (t : Trail) (e : Entry F) → Track c t → t.stored ≡ false → Track (landed c (t.at t.last) e) (arrived t)
+  pub land_track : (c : Column F) (t : Trail) (e : Entry F) → Track c t → t.stored ≡ false → Track (column_joined c (t.at t.last) e) (arrived t)
   land_track c t e k s = record {
     has_moved = λ x. absurd (clash true refl x);
     store_is = λ h x. (

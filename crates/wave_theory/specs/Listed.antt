@@ -5,7 +5,7 @@ use Rattle.wave_states.specs.Kinds.{Kind}
 use Rattle.wave_states.specs.States.{State}
 use Rattle.wave_states.specs.Labels.{Act, Label, Admit, Queue, Grant, Visit, Start, Stop, Free, Pass, Land, Commit, ticket_of, is_stop}
 use Rattle.wave_states.specs.Steps.{step}
-use Rattle.wave_states.specs.Canonical.{enabled, enabled_for}
+use Rattle.wave_states.specs.Canonical.{enabled_labels, enabled_for}
 use Rattle.wave_states.specs.Runs.{Finished}
 use Rattle.wave_states.specs.Begins.{Begin}
 
@@ -57,11 +57,11 @@ module _ {A F R J : Type 0} where
 module _ {A F R J : Type 0} (kind : Kind A F R J) where
   -- Canonical list. A label is in it exactly where it is enabled and is a Stop, or the lowest idle worker's.
   abbrev pub Listed : ℕ → Begin F → List (List J) → State A F R J → Type 0
-  Listed workers b batches s = (l : Label) → IsIn (enabled kind.system workers kind.hosts s) l ↔ ((is_some (step kind.system workers s l) ≡ true) × (is_stop l.act ≡ false → LowerAreOut s l.worker))
+  Listed workers b batches s = (l : Label) → IsIn (enabled_labels kind.system workers kind.hosts s) l ↔ ((is_some (step kind.system workers s l) ≡ true) × (is_stop l.act ≡ false → LowerAreOut s l.worker))
 
   -- Sorted. The canonical list is in its order, and has no label twice.
   abbrev pub Sorted : ℕ → Begin F → List (List J) → State A F R J → Type 0
-  Sorted workers b batches s = Rising (λ (l m : Label). Before l.act m.act) (enabled kind.system workers kind.hosts s)
+  Sorted workers b batches s = Rising (λ (l m : Label). Before l.act m.act) (enabled_labels kind.system workers kind.hosts s)
 
   -- Listed for a worker. Its list has exactly the enabled labels that are its own, in the canonical order.
   pub record ListedFor (workers : ℕ) (b : Begin F) (batches : List (List J)) (s : State A F R J) : Type 0 where
@@ -70,4 +70,4 @@ module _ {A F R J : Type 0} (kind : Kind A F R J) where
 
   -- Empty at the end. The canonical list is empty exactly where no label is enabled and no segment is out.
   abbrev pub EmptyAtEnd : ℕ → Begin F → List (List J) → State A F R J → Type 0
-  EmptyAtEnd workers b batches s = (enabled kind.system workers kind.hosts s ≡ []) ↔ Finished kind.system workers s
+  EmptyAtEnd workers b batches s = (enabled_labels kind.system workers kind.hosts s ≡ []) ↔ Finished kind.system workers s

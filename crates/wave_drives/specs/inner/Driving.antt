@@ -3,7 +3,7 @@ use Rattle.std.specs.Prelude.{◌≡◌, ℕ, List, [], ◌∷◌, Option, Some}
 use Rattle.wave_base.specs.declared.start.Start.{Start}
 use Rattle.wave_states.specs.Actors.{Actors}
 use Rattle.wave_states.specs.Begins.{start_state}
-use Rattle.wave_states.specs.Canonical.{enabled}
+use Rattle.wave_states.specs.Canonical.{enabled_labels}
 use Rattle.wave_states.specs.Labels.{Label}
 use Rattle.wave_states.specs.Runs.{Rule}
 use Rattle.wave_states.specs.States.{State}
@@ -21,9 +21,9 @@ module _ {A F R J : Type 0} (sys : Actors A F R J) (workers hosts : ℕ) (rule :
   abbrev pub DrivesTo : ℕ → State A F R J → List Label → ℕ → State A F R J → Type 0
   DrivesTo x s [] y v = (x ≡ y) × (s ≡ v)
   DrivesTo x s (l ∷ ls) y v =
-      ((rule x s (enabled sys workers hosts s)).1 ≡ Some l)
+      ((rule x s (enabled_labels sys workers hosts s)).1 ≡ Some l)
       × (u : State A F R J) × (step sys workers s l ≡ Some u)
-      × DrivesTo (rule x s (enabled sys workers hosts s)).0 u ls y v
+      × DrivesTo (rule x s (enabled_labels sys workers hosts s)).0 u ls y v
 
 abbrev pub first_state : Plan → Start → TheState
 first_state plan start = start_state (begin_in plan start) plan.script.batches

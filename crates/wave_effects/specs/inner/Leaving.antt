@@ -19,7 +19,7 @@ use Rattle.wave_states.specs.Actors.{Pause, Go, Down, Back, Over}
 use Rattle.wave_states.specs.States as theory
 use Rattle.wave_states.specs.States.{Column, Entry, Enter, Letter, Mail, Transfer, hold_at}
 use Rattle.wave_states.specs.Desks.{Desk, kept_of, not_at, send, with_held}
-use Rattle.wave_states.specs.Steps.{Part, cell_of, child_or_new, host_or, into_child, keep_below, looked, moved_on, over_by, put_back, with_body}
+use Rattle.wave_states.specs.Steps.{Part, cell_of, child_or_new, host_or, into_child, keep_below, after_look, moved_on, over_by, put_back, with_body}
 use Rattle.wave_effects.specs.declared.actor.Actor.{Actor}
 
 abbrev pub Hold : Type 0
@@ -81,7 +81,7 @@ module _ {A F R : Type 0} (moved : R → Option (Path × ℕ)) where
   paused_by p host x d en r peek (Over o) = over_by p x host d (with_body en (Some r)) o (moved o)
 
   abbrev pub stopped_by : Path → ℕ → Part A F R → Desk A F → Entry F → theory.Record F → Bool → Pause R → Bool → Option (Part A F R)
-  stopped_by p host x d en r peek why true = looked x host d en why
+  stopped_by p host x d en r peek why true = after_look x host d en why
   stopped_by p host x d en r peek why false = Some (paused_by p host x d en r peek why)
 
 -- an event that sent its context away

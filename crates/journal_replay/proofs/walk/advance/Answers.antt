@@ -5,7 +5,7 @@ use Rattle.std.proofs.lemmas.Option.{slice_get_read}
 use Rattle.wave_base.specs.Starts.{first_start}
 use Rattle.wave_labels.specs.declared.label.Label.{Label}
 use Rattle.wave_labels.specs.Labels.{label_of}
-use Rattle.wave_states.specs.Canonical.{enabled}
+use Rattle.wave_states.specs.Canonical.{enabled_labels}
 use Rattle.plan_actors.specs.PlanActors.{plan_actors}
 use Rattle.plan_actors.specs.Plans.{Plan}
 use Rattle.wave_effects.specs.Plans.{plan_of}
@@ -47,5 +47,5 @@ returns-clause-stops c =
       state = d.state;
       run = d.run;
       refused = no_step p c.args.walk.now (take i journal) d label (λ e. true≢false (sym ((c.can_take.ensures (first_start p.program.shape) d.state d.under.stands).1 e) ∙ c.if-can_take.false));
-      listed = subst (λ (q : Plan). map label_of c.in_ok-enabled.enabled ≡ enabled (plan_actors q.program) q.workers q.script.hosts d.state) d.same (c.in_ok-enabled.ensures (first_start p.program.shape) d.state d.under.stands);
+      listed = subst (λ (q : Plan). map label_of c.in_ok-enabled.enabled ≡ enabled_labels (plan_actors q.program) q.workers q.script.hosts d.state) d.same (c.in_ok-enabled.ensures (first_start p.program.shape) d.state d.under.stands);
     }

@@ -1,5 +1,5 @@
 use Rattle.std.proofs.Common.{◌≡◌, ◌<◌, inl, inr, None, refl, sym, ◌∙◌, ap, subst}
-use Rattle.wave_states.specs.Canonical.{enabled}
+use Rattle.wave_states.specs.Canonical.{enabled_labels}
 use Rattle.wave_states.specs.Labels.{Label}
 use Rattle.wave_states.specs.Runs.{Finished}
 use Rattle.wave_states.specs.Steps.{step}
@@ -31,7 +31,7 @@ returns c = λ o b s worker h may unfinished nothing.
     let ends = c.empty_at_end.ensures k p.workers from p.script.batches starts jobs (labels_of b) s reached in
     let lists = c.lists_are_exact.ensures k p.workers from p.script.batches starts jobs (labels_of b) s reached in
     let stuck = c.never_stuck.ensures k p.workers from p.script.batches starts jobs (labels_of b) s reached in
-    let out = some_out (plan_actors p.program) p.workers s worker.0 own idle none (enabled (plan_actors p.program) p.workers p.script.hosts s)
+    let out = some_out (plan_actors p.program) p.workers s worker.0 own idle none (enabled_labels (plan_actors p.program) p.workers p.script.hosts s)
     (λ l i. ((lists l).0 i).0)
     (λ empty. unfinished (subst (λ (q : Plan). Finished (plan_actors q.program) q.workers s) (sym h.plan) (ends.0 empty))) in
     record {

@@ -1,7 +1,7 @@
 use Rattle.std.proofs.Common.{◌≡◌, ◌∙◌, ◌++◌, ◌-◌, ◌<◌, List, ◌∷◌, [], length, map, sym, ap, subst, arith}
 use Rattle.std.specs.Prelude.{option_map}
 use Rattle.std.proofs.lemmas.List.{length-append, length-map, map-append}
-use Rattle.wave_states.specs.Canonical.{enabled}
+use Rattle.wave_states.specs.Canonical.{enabled_labels}
 use Rattle.wave_states.specs.Labels.{Label}
 use Rattle.wave_states.specs.Runs.{Finished}
 use Rattle.wave_labels.specs.Labels.{label_of}
@@ -51,7 +51,7 @@ returns-clause-driven c =
     let picks = c.in_ok-label.ensures c.args.start.now d.state st ∙ ap (λ o. (c.next.new.draw, option_map label_of o)) c.in_default.is in
     let none = nothing_left c.rules_pick.ensures m c.loop-labels.walk.ends.items c.args.start.now c.args.rule c.loop-labels.draw c.next.new.draw d.state d.under can picks in
     drive_done (plan_actors p.program) p.workers p.script.hosts (rule_of c.args.rule) (map label_of c.loop-labels.labels.items) (rule_number c.args.rule) (first_state p c.args.start.now) c.loop-labels.draw d.state d.drives
-    (subst (λ (q : Plan). enabled (plan_actors q.program) q.workers q.script.hosts d.state ≡ []) d.same none)
+    (subst (λ (q : Plan). enabled_labels (plan_actors q.program) q.workers q.script.hosts d.state ≡ []) d.same none)
 
 pub returns-clause-finished : goal.returns-clause-finished
 returns-clause-finished c =

@@ -2,7 +2,7 @@ use Rattle.std.proofs.Common.{◌≡◌, ◌∙◌, ◌+◌, length, map, List, 
 use Rattle.std.specs.List.{filter}
 use Rattle.wave_base.specs.declared.path.Path.{Path}
 use Rattle.wave_states.specs.States.{Ended}
-use Rattle.wave_states.specs.Steps.{ended}
+use Rattle.wave_states.specs.Steps.{after_end}
 use Rattle.wave_states.specs.Desks.{nothing_kept, with_status}
 use Rattle.event_cells.specs.declared.held.Hold.{Hold}
 use Rattle.event_cells.specs.Cells.{held_of}
@@ -24,5 +24,5 @@ returns-clause-desk g c = λ d h.
       held = r.held ∙ ap (map held_of) (nothing c.args.self.now.held.holds ∙ sym c.clear.ensures.holds);
       sent = r.sent ∙ ap (λ holds. n + length (releases nothing_kept holds)) (sym c.as_slice.ensures.holds) ∙ sym c.release.ensures.sent;
       status = r.status;
-      mails = carried_in (after c.args.self.now.held.holds) c.release.new.outbox.mails (ended d).mails (ap after (sym c.as_slice.ensures.holds) ∙ sym c.release.ensures.mails) r.mails;
+      mails = carried_in (after c.args.self.now.held.holds) c.release.new.outbox.mails (after_end d).mails (ap after (sym c.as_slice.ensures.holds) ∙ sym c.release.ensures.mails) r.mails;
     }
