@@ -15,7 +15,7 @@ fn goes(line: Option<&Line>, key: i64, to: u8) -> bool {
 }
 
 // The moves that are asked for of contexts with these hosts and loads, the keys in order from 0.
-fn asked(
+fn moves_asked(
     alloc: Global,
     rows: &[(u8, u64)],
     hosts: u8,
@@ -42,11 +42,11 @@ fn asked(
 #[test]
 fn a_balance_moves_the_first_that_may_go(rt: HostRuntime) -> Result<(), Fail> {
     let six = [(0, 3), (0, 2), (0, 1), (0, 1), (0, 1), (0, 1)];
-    let moves = asked(rt.alloc(), &six, 2, &Policy::Balance(2))?;
+    let moves = moves_asked(rt.alloc(), &six, 2, &Policy::Balance(2))?;
     assert_eq!(rt; moves.len(), 2);
     assert!(rt; goes(moves.get(0), 0, 1));
     assert!(rt; goes(moves.get(1), 1, 1));
-    let moves = asked(rt.alloc(), &six, 2, &Policy::Balance(1))?;
+    let moves = moves_asked(rt.alloc(), &six, 2, &Policy::Balance(1))?;
     assert_eq!(rt; moves.len(), 1);
     assert!(rt; goes(moves.get(0), 0, 1));
     Ok(())
@@ -55,10 +55,10 @@ fn a_balance_moves_the_first_that_may_go(rt: HostRuntime) -> Result<(), Fail> {
 #[test]
 fn a_balance_ends_where_none_may_go(rt: HostRuntime) -> Result<(), Fail> {
     let equal = [(0, 2), (1, 2)];
-    let moves = asked(rt.alloc(), &equal, 2, &Policy::Balance(3))?;
+    let moves = moves_asked(rt.alloc(), &equal, 2, &Policy::Balance(3))?;
     assert!(rt; moves.is_empty());
     let whole = [(0, 5), (1, 0)];
-    let moves = asked(rt.alloc(), &whole, 2, &Policy::Balance(3))?;
+    let moves = moves_asked(rt.alloc(), &whole, 2, &Policy::Balance(3))?;
     assert!(rt; moves.is_empty());
     Ok(())
 }
@@ -66,7 +66,7 @@ fn a_balance_ends_where_none_may_go(rt: HostRuntime) -> Result<(), Fail> {
 #[test]
 fn of_equal_loads_the_first_host_is_taken(rt: HostRuntime) -> Result<(), Fail> {
     let rows = [(2, 3), (1, 3), (2, 2), (1, 2)];
-    let moves = asked(rt.alloc(), &rows, 4, &Policy::Balance(1))?;
+    let moves = moves_asked(rt.alloc(), &rows, 4, &Policy::Balance(1))?;
     assert_eq!(rt; moves.len(), 1);
     assert!(rt; goes(moves.get(0), 1, 0));
     Ok(())
@@ -75,11 +75,11 @@ fn of_equal_loads_the_first_host_is_taken(rt: HostRuntime) -> Result<(), Fail> {
 #[test]
 fn a_drain_moves_all_in_path_order(rt: HostRuntime) -> Result<(), Fail> {
     let rows = [(1, 7), (0, 7), (1, 0)];
-    let moves = asked(rt.alloc(), &rows, 3, &Policy::Drain(Host(1), Host(2)))?;
+    let moves = moves_asked(rt.alloc(), &rows, 3, &Policy::Drain(Host(1), Host(2)))?;
     assert_eq!(rt; moves.len(), 2);
     assert!(rt; goes(moves.get(0), 0, 2));
     assert!(rt; goes(moves.get(1), 2, 2));
-    let moves = asked(rt.alloc(), &rows, 3, &Policy::Drain(Host(2), Host(1)))?;
+    let moves = moves_asked(rt.alloc(), &rows, 3, &Policy::Drain(Host(2), Host(1)))?;
     assert!(rt; moves.is_empty());
     Ok(())
 }
@@ -87,7 +87,7 @@ fn a_drain_moves_all_in_path_order(rt: HostRuntime) -> Result<(), Fail> {
 #[test]
 fn a_drain_has_no_more_lines_than_a_script(rt: HostRuntime) -> Result<(), Fail> {
     let rows = [(0, 1); 4_001];
-    let moves = asked(rt.alloc(), &rows, 2, &Policy::Drain(Host(0), Host(1)))?;
+    let moves = moves_asked(rt.alloc(), &rows, 2, &Policy::Drain(Host(0), Host(1)))?;
     assert_eq!(rt; moves.len(), EVENT_LINES);
     assert!(rt; goes(moves.get(3_999), 3_999, 1));
     Ok(())
@@ -96,7 +96,7 @@ fn a_drain_has_no_more_lines_than_a_script(rt: HostRuntime) -> Result<(), Fail> 
 #[test]
 fn a_balance_of_many_contexts(rt: HostRuntime) -> Result<(), Fail> {
     let rows = [(0, 1); 3_000];
-    let moves = asked(rt.alloc(), &rows, 8, &Policy::Balance(1))?;
+    let moves = moves_asked(rt.alloc(), &rows, 8, &Policy::Balance(1))?;
     assert_eq!(rt; moves.len(), 1);
     assert!(rt; goes(moves.get(0), 0, 1));
     Ok(())

@@ -59,7 +59,7 @@ fn text(alloc: Global, n: i64) -> Result<Value, OpError> {
 }
 
 #[tactic(auto, unfolding(value_ops::specs::Operators::takes_of, value_ops::specs::Operators::operators))]
-fn joined(alloc: Global, s: Txt, t: Txt) -> Result<Txt, OpError> {
+fn cat_texts(alloc: Global, s: Txt, t: Txt) -> Result<Txt, OpError> {
     match apply(alloc, CAT, &[Value::Str(s), Value::Str(t)])? {
         Value::Str(text) => Ok(text),
         _ => Err(OpError::Trap(TrapKind::Absent)),
@@ -248,10 +248,10 @@ fn longest_text(rt: HostRuntime) -> Result<(), Fail> {
     let alloc = rt.alloc();
     let mut long = digits(alloc, 12345678)?;
     for _ in 0..124 {
-        long = joined(alloc, long, digits(alloc, 12345678)?)?;
+        long = cat_texts(alloc, long, digits(alloc, 12345678)?)?;
     }
     assert!(rt; long.bytes().len() == 1000);
-    assert!(rt; joined(alloc, long, digits(alloc, 1)?) == Err(OpError::Trap(TrapKind::TooLong)));
+    assert!(rt; cat_texts(alloc, long, digits(alloc, 1)?) == Err(OpError::Trap(TrapKind::TooLong)));
     Ok(())
 }
 

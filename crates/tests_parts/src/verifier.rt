@@ -126,7 +126,7 @@ fn names_the_instruction_that_breaks_a_rule(rt: HostRuntime) -> Result<(), Fail>
 }
 
 // A class with one field.
-fn counted(alloc: Global, parent: Option<Class>) -> Result<ClassInfo, OutOfMemory> {
+fn counting_class(alloc: Global, parent: Option<Class>) -> Result<ClassInfo, OutOfMemory> {
     class(
         alloc,
         b"Class",
@@ -172,9 +172,9 @@ fn function(
 // A root, halls in it and stalls in these, each with a field.
 fn market_shape(alloc: Global) -> Result<Shape, OutOfMemory> {
     let mut classes = Seq::new(alloc);
-    classes.add(counted(alloc, None)?)?;
-    classes.add(counted(alloc, Some(Class(0)))?)?;
-    classes.add(counted(alloc, Some(Class(1)))?)?;
+    classes.add(counting_class(alloc, None)?)?;
+    classes.add(counting_class(alloc, Some(Class(0)))?)?;
+    classes.add(counting_class(alloc, Some(Class(1)))?)?;
     Ok(Shape {
         classes,
         events: Seq::new(alloc),
@@ -309,7 +309,7 @@ fn peeks_where_it_only_looks_at_last(rt: HostRuntime) -> Result<(), Fail> {
 }
 
 // A verified program goes to other threads and is shared by them.
-fn shared<R: Threads>(rt: &R, verified: Verified) -> (bool, bool, Verified) {
+fn share_table<R: Threads>(rt: &R, verified: Verified) -> (bool, bool, Verified) {
     let verified = join(rt, move || verified, || ()).0;
     let (here, there) = join(rt, || verified.peeks(0), || verified.peeks(0));
     (here, there, verified)
@@ -319,7 +319,7 @@ fn shared<R: Threads>(rt: &R, verified: Verified) -> (bool, bool, Verified) {
 fn a_verified_program_is_shared_by_threads(rt: HostRuntime) -> Result<(), Fail> {
     let alloc = rt.alloc();
     let code = [Instr::Field(0), Instr::Reply];
-    let (here, there, verified) = shared(&rt, verdict_on(alloc, program(alloc, &code)?)?);
+    let (here, there, verified) = share_table(&rt, verdict_on(alloc, program(alloc, &code)?)?);
     assert!(rt; here && there);
     assert_eq!(rt; verified.program().functions.len(), 1);
     Ok(())

@@ -17,7 +17,7 @@ fn body(alloc: Global, name: Txt, count: i64, busy: bool) -> Result<Record, OutO
     Ok(Record { fields, children })
 }
 
-fn kept(alloc: Global, name: bool, count: bool, busy: bool) -> Result<Seq<bool>, OutOfMemory>
+fn kept_marks(alloc: Global, name: bool, count: bool, busy: bool) -> Result<Seq<bool>, OutOfMemory>
     ensures { IfOk result (λ ks. ks ≡ name ∷ count ∷ busy ∷ []) }
 {
     Ok(Seq::from_vec(vec![in alloc; name, count, busy]?))
@@ -29,8 +29,8 @@ fn reads_what_was_kept(rt: HostRuntime) -> Result<(), Fail> {
     let root = body(alloc, Txt::from_bytes(alloc, b"root")?, 7, true)?;
     let hall = body(alloc, Txt::from_bytes(alloc, b"hall")?, -1, false)?;
     let mut views = Views::new(alloc);
-    views.leave(&root, &kept(alloc, false, true, true)?)?;
-    views.leave(&hall, &kept(alloc, true, false, true)?)?;
+    views.leave(&root, &kept_marks(alloc, false, true, true)?)?;
+    views.leave(&hall, &kept_marks(alloc, true, false, true)?)?;
     let text = views.read(1, 0)?;
     assert!(rt; text == Value::Str(Txt::from_bytes(alloc, b"hall")?));
     assert_eq!(rt; views.read_int(0, 1), 7);

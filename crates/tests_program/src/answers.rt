@@ -49,7 +49,7 @@ fn has(rt: &impl Abort, answer: &Answer, status: u8, note: &[u8], text: &[u8]) {
     assert_eq!(rt; answer.status, status);
 }
 
-fn joined(alloc: Global, pieces: &[&[u8]]) -> Result<Vec<u8>, OutOfMemory> {
+fn join(alloc: Global, pieces: &[&[u8]]) -> Result<Vec<u8>, OutOfMemory> {
     let mut text = Vec::new(alloc);
     for piece in pieces {
         text.extend_from_slice(piece)?;
@@ -83,9 +83,9 @@ fn sides(row: &[u8]) -> (&[u8], &[u8]) {
 }
 
 // The column of the mark `^` in a text of one line, and the text without it.
-fn unmarked(alloc: Global, marked: &[u8]) -> Result<(u64, Vec<u8>), OutOfMemory> {
+fn without_mark(alloc: Global, marked: &[u8]) -> Result<(u64, Vec<u8>), OutOfMemory> {
     let at = marked.iter().position(|byte| *byte == b'^').unwrap_or(0);
     let before = marked.get(..at).unwrap_or(b"");
     let behind = marked.get(at + 1..).unwrap_or(b"");
-    Ok((before.len() as u64 + 1, joined(alloc, &[before, behind])?))
+    Ok((before.len() as u64 + 1, join(alloc, &[before, behind])?))
 }

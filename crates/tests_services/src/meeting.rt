@@ -31,7 +31,7 @@ impl Meeting {
     }
 
     /// Whether one of them waited in vain.
-    pub fn missed(&self) -> bool {
+    pub fn has_missed(&self) -> bool {
         self.missed.load(Ordering::SeqCst) != 0
     }
 

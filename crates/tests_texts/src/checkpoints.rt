@@ -47,7 +47,7 @@ fn text_with(alloc: Global, number: u32, other: &[u8]) -> Result<Vec<u8>, OutOfM
 }
 
 // Why a text is refused.
-fn refused(alloc: Global, shape: &Shape, text: &[u8]) -> Option<CheckError>
+fn refusal_of(alloc: Global, shape: &Shape, text: &[u8]) -> Option<CheckError>
     requires shape { IsShape shape.now }
     requires names { HasNames shape.now }
 {
@@ -68,7 +68,7 @@ fn refused_with(
     requires names { HasNames shape.now }
 {
     let text = text_with(alloc, number, other)?;
-    Ok(refused(alloc, shape, text.as_slice()))
+    Ok(refusal_of(alloc, shape, text.as_slice()))
 }
 
 // The text is read, and what is read is written as it.
@@ -226,11 +226,11 @@ fn refuses_what_is_missing_or_too_many(rt: HostRuntime) -> Result<(), Fail> {
     let shape = market_shape(alloc)?;
     for (count, more, number) in &OTHER_ENDS {
         let text = text_from(alloc, *count, more)?;
-        let said = refused(alloc, &shape, text.as_slice());
+        let said = refusal_of(alloc, &shape, text.as_slice());
         is_point_fault(&rt, said, Some(CheckError::Syntax { line: *number }));
     }
     let empty = text_from(alloc, 7, b"snapshot 0\nend\n")?;
-    let said = refused(alloc, &shape, empty.as_slice());
+    let said = refusal_of(alloc, &shape, empty.as_slice());
     is_point_fault(&rt, said, Some(CheckError::Tree { line: 8 }));
     Ok(())
 }

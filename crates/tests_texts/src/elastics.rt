@@ -59,7 +59,7 @@ fn second_part(alloc: Global) -> Result<Part, OutOfMemory> {
 }
 
 // Its parts: one without a policy, one with two batches, and two without any.
-fn wanted(alloc: Global) -> Result<Elastic, OutOfMemory> {
+fn wanted_script(alloc: Global) -> Result<Elastic, OutOfMemory> {
     let mut parts = Seq::new(alloc);
     parts.add(first_part(alloc)?)?;
     parts.add(second_part(alloc)?)?;
@@ -80,7 +80,7 @@ fn read(alloc: Global, shape: &Shape, text: &[u8]) -> Result<Elastic, ScriptErro
 fn a_part_begins_at_each_policy(rt: HostRuntime) -> Result<(), Fail> {
     let alloc = rt.alloc();
     let shape = event_shape(alloc)?;
-    let wanted = wanted(alloc)?;
+    let wanted = wanted_script(alloc)?;
     assert!(rt; read(alloc, &shape, TEXT)? == wanted);
     let empty = read(alloc, &shape, b"")?;
     assert_eq!(rt; empty.hosts, 1);

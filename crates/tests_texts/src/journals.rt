@@ -67,7 +67,7 @@ fn reads_numbers_at_their_bounds(rt: HostRuntime) -> Result<(), Fail> {
 }
 
 // The line at which a text is refused.
-fn refused(alloc: Global, shape: &Shape, text: &[u8]) -> Option<u32>
+fn refusal_line(alloc: Global, shape: &Shape, text: &[u8]) -> Option<u32>
     requires shape { IsShape shape.now }
     requires names { HasNames shape.now }
     requires short { length text.now ≤ 2000 }
@@ -98,7 +98,7 @@ fn refuses_heads(rt: HostRuntime) -> Result<(), Fail> {
     let shape = hall_shape(alloc)?;
     for text in &HEADS {
         assert!(rt; text.len() <= 2000);
-        assert_eq!(rt; refused(alloc, &shape, text), Some(1));
+        assert_eq!(rt; refusal_line(alloc, &shape, text), Some(1));
     }
     Ok(())
 }
@@ -114,7 +114,7 @@ fn refused_alone(alloc: Global, shape: &Shape, line: &[u8]) -> Result<Option<u32
     if text.len() > 2000 {
         return Ok(None);
     }
-    Ok(refused(alloc, shape, text.as_slice()))
+    Ok(refusal_line(alloc, shape, text.as_slice()))
 }
 
 // Lines that a journal of one line may not have.
@@ -163,8 +163,8 @@ fn refuses_the_first_line_that_is_none(rt: HostRuntime) -> Result<(), Fail> {
     let alloc = rt.alloc();
     let shape = hall_shape(alloc)?;
     let middle = b"journal 3\n1 w0 h0 Admit #1\n2 w0 h0 Grant 1 /\n3 w0 h0 Nothing\n";
-    assert_eq!(rt; refused(alloc, &shape, middle), Some(3));
+    assert_eq!(rt; refusal_line(alloc, &shape, middle), Some(3));
     let open = b"journal 2\n1 w0 h0 Admit #1\n2 w0 h0 Commit #1";
-    assert_eq!(rt; refused(alloc, &shape, open), Some(3));
+    assert_eq!(rt; refusal_line(alloc, &shape, open), Some(3));
     Ok(())
 }

@@ -61,7 +61,7 @@ fn shape(alloc: Global) -> Result<Shape, OutOfMemory> {
 }
 
 // An event that sent nothing and created none.
-pub(crate) fn ended(alloc: Global, outcome: Outcome) -> EventResult {
+pub(crate) fn ended_result(alloc: Global, outcome: Outcome) -> EventResult {
     EventResult {
         outcome,
         messages: Seq::new(alloc),
@@ -77,7 +77,7 @@ fn message(alloc: Global, label: &[u8], value: Value) -> Result<Message, OutOfMe
 }
 
 // A reply, and two messages.
-fn replied(alloc: Global) -> Result<EventResult, OutOfMemory> {
+fn reply_result(alloc: Global) -> Result<EventResult, OutOfMemory> {
     let mut messages = Seq::new(alloc);
     messages.add(message(alloc, b"till", Value::Int(-3))?)?;
     let said = text(alloc, b"c\\d")?;
@@ -105,7 +105,7 @@ fn shots(alloc: Global) -> Result<Outcome, OutOfMemory> {
     Ok(Outcome::Shots(shots))
 }
 
-fn trapped() -> Outcome {
+fn trap_outcome() -> Outcome {
     Outcome::Trapped(Trap {
         kind: TrapKind::DivZero,
         at: Span { line: 8, col: 26 },
@@ -116,17 +116,17 @@ fn results(alloc: Global) -> Result<Vec<EventResult>, OutOfMemory>
     ensures { IfOk result (λ v. length v.items ≤ 6) }
 {
     let mut all = Vec::new(alloc);
-    all.push(replied(alloc)?)?;
-    all.push(ended(alloc, Outcome::Done))?;
-    all.push(ended(alloc, trapped()))?;
-    all.push(ended(alloc, Outcome::Moved(hall(1), Host(1))))?;
-    all.push(ended(alloc, Outcome::Absent(hall(9))))?;
-    all.push(ended(alloc, shots(alloc)?))?;
+    all.push(reply_result(alloc)?)?;
+    all.push(ended_result(alloc, Outcome::Done))?;
+    all.push(ended_result(alloc, trap_outcome()))?;
+    all.push(ended_result(alloc, Outcome::Moved(hall(1), Host(1))))?;
+    all.push(ended_result(alloc, Outcome::Absent(hall(9))))?;
+    all.push(ended_result(alloc, shots(alloc)?))?;
     Ok(all)
 }
 
 // What the first ticket created.
-fn made(alloc: Global, first: u32) -> Result<Seq<Seq<Ticket>>, OutOfMemory>
+fn made_tickets(alloc: Global, first: u32) -> Result<Seq<Seq<Ticket>>, OutOfMemory>
     requires { first ≤ 1000 }
 {
     let created = vec![in alloc; Ticket(first + 1), Ticket(first + 2)]?;
@@ -142,12 +142,12 @@ fn one_place(alloc: Global, path: Path, host: Host) -> Result<Seq<Place>, OutOfM
 }
 
 // A run of six tickets, of which the first created the second and the third.
-fn finished(alloc: Global, first: u32) -> Result<Finished, OutOfMemory>
+fn finished_listing(alloc: Global, first: u32) -> Result<Finished, OutOfMemory>
     requires { first ≤ 1000 }
     ensures { IfOk result (λ d. length d.results ≤ 2 ^ 32 - 1) }
 {
     let names = vec![in alloc; Some(0), Some(0), Some(0), None, None, None]?;
-    let made = made(alloc, first)?;
+    let made = made_tickets(alloc, first)?;
     let places = one_place(alloc, hall(1), Host(1))?;
     Ok(Finished {
         results: Seq::from_vec(results(alloc)?),
@@ -183,7 +183,7 @@ fn is_written(rt: &impl Abort, written: Result<(), ListError>) {
 fn lists_every_kind_of_line(rt: HostRuntime) -> Result<(), Fail> {
     let alloc = rt.alloc();
     let shape = shape(alloc)?;
-    let done = finished(alloc, 7)?;
+    let done = finished_listing(alloc, 7)?;
     is_text(
         &rt,
         listing(alloc, &shape, Ticket(7), &done, true)?.as_slice(),
@@ -202,7 +202,7 @@ fn lists_every_kind_of_line(rt: HostRuntime) -> Result<(), Fail> {
 fn done_by(alloc: Global, name: Option<u16>) -> Shown {
     Shown {
         name,
-        result: ended(alloc, Outcome::Done),
+        result: ended_result(alloc, Outcome::Done),
         made: Seq::new(alloc),
     }
 }
@@ -260,7 +260,7 @@ fn names_the_ticket_before_the_first(rt: HostRuntime) -> Result<(), Fail> {
 fn writes_a_front_where_the_sink_fails(rt: HostRuntime) -> Result<(), Fail> {
     let alloc = rt.alloc();
     let shape = shape(alloc)?;
-    let done = finished(alloc, 7)?;
+    let done = finished_listing(alloc, 7)?;
     let mut sink = MemSink::new(alloc, 20, 4, Seq::new(alloc))?;
     let ended = write_listing_at(alloc, &mut sink, &shape, Ticket(7), &done, false);
     assert!(rt; ended == Err(ListError::WriteFault));

@@ -1,6 +1,6 @@
 //! Generated loads, and the sums of runs.
 
-use crate::listings::ended;
+use crate::listings::ended_result;
 use crate::same::is_text;
 use std::test::Fail;
 use wave_base::{Host, Outcome, Path, Seq, Span, Trap, TrapKind, Value};
@@ -52,7 +52,7 @@ fn summary_of_a_run(rt: HostRuntime) -> Result<(), Fail> {
     ];
     let mut results = Vec::new(alloc);
     for outcome in outcomes {
-        results.push(ended(alloc, outcome))?;
+        results.push(ended_result(alloc, outcome))?;
     }
     let text = summarize(alloc, results.as_slice())?;
     let want = b"events 8\nreplies 3\ntraps 1\nmoved 1\nabsent 1\ntotal 18446744073709551614\n";

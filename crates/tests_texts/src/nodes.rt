@@ -21,7 +21,7 @@ fn name(alloc: Global, col: u32, text: &[u8]) -> Result<Name, OutOfMemory>
 }
 
 // -m[1]
-fn negated(alloc: Global) -> Result<Expr, OutOfMemory> {
+fn negation(alloc: Global) -> Result<Expr, OutOfMemory> {
     let index = Expr::index(alloc, name(alloc, 2, b"m")?, Expr::number(at(4), 1))?;
     Expr::unary(alloc, at(1), UnaryOp::Neg, index)
 }
@@ -35,7 +35,7 @@ fn arguments(alloc: Global) -> Result<Vec<Expr>, OutOfMemory> {
 }
 
 // C[true].f("", x)
-fn called(alloc: Global) -> Result<Expr, OutOfMemory> {
+fn call_of(alloc: Global) -> Result<Expr, OutOfMemory> {
     let args = arguments(alloc)?;
     let class = name(alloc, 9, b"C")?;
     let method = name(alloc, 16, b"f")?;
@@ -46,9 +46,9 @@ fn called(alloc: Global) -> Result<Expr, OutOfMemory> {
 fn nodes_start_at_their_first_token(rt: HostRuntime) -> Result<(), Fail> {
     let alloc = rt.alloc();
     // -m[1] + C[true].f("", x)
-    let right = called(alloc)?;
+    let right = call_of(alloc)?;
     assert_eq!(rt; right.at, at(9));
-    let sum = Expr::binary(alloc, negated(alloc)?, BinaryOp::Add, right)?;
+    let sum = Expr::binary(alloc, negation(alloc)?, BinaryOp::Add, right)?;
     assert_eq!(rt; sum.at, at(1));
     assert!(rt; matches!(&sum.node, Node::Binary(BinaryOp::Add, _, _)));
     Ok(())

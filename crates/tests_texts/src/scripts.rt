@@ -53,7 +53,7 @@ pub(crate) fn read(alloc: Global, shape: &Shape, text: &[u8]) -> Result<Script, 
     read_script(alloc, shape, text)
 }
 
-fn wanted(alloc: Global) -> Result<Script, OutOfMemory> {
+fn wanted_script(alloc: Global) -> Result<Script, OutOfMemory> {
     let mut batches = Seq::new(alloc);
     batches.add(first_batch(alloc)?)?;
     batches.add(second_batch(alloc)?)?;
@@ -64,7 +64,7 @@ fn wanted(alloc: Global) -> Result<Script, OutOfMemory> {
 fn reads_every_form(rt: HostRuntime) -> Result<(), Fail> {
     let alloc = rt.alloc();
     let shape = event_shape(alloc)?;
-    let wanted = wanted(alloc)?;
+    let wanted = wanted_script(alloc)?;
     assert!(rt; read(alloc, &shape, TEXT)? == wanted);
     let empty = read(alloc, &shape, b"")?;
     assert_eq!(rt; empty.hosts, 1);

@@ -74,7 +74,7 @@ fn reads_each_kind(rt: HostRuntime) -> Result<(), Fail> {
 }
 
 // Why a text is refused.
-fn refused(alloc: Global, shape: &Shape, text: &[u8]) -> Option<ShotError>
+fn refusal_of(alloc: Global, shape: &Shape, text: &[u8]) -> Option<ShotError>
     requires shape { IsShape shape.now }
     requires names { HasNames shape.now }
 {
@@ -100,14 +100,14 @@ fn refuses_heads(rt: HostRuntime) -> Result<(), Fail> {
     let shape = market_shape(alloc)?;
     let first = Some(ShotError::Syntax { line: 1 });
     for text in &HEADS {
-        is_shot_fault(&rt, refused(alloc, &shape, text), first);
+        is_shot_fault(&rt, refusal_of(alloc, &shape, text), first);
     }
     let none = Some(ShotError::Order { line: 1 });
-    is_shot_fault(&rt, refused(alloc, &shape, b"snapshot 0\n"), none);
+    is_shot_fault(&rt, refusal_of(alloc, &shape, b"snapshot 0\n"), none);
     let open = Some(ShotError::Syntax { line: 2 });
     is_shot_fault(
         &rt,
-        refused(alloc, &shape, b"snapshot 1\nat / seen=0"),
+        refusal_of(alloc, &shape, b"snapshot 1\nat / seen=0"),
         open,
     );
     Ok(())
@@ -121,7 +121,7 @@ fn behind_root(alloc: Global, shape: &Shape, line: &[u8]) -> Result<Option<ShotE
     let mut text = Vec::from_slice(alloc, b"snapshot 2\nat / seen=0\n")?;
     text.extend_from_slice(line)?;
     text.push(b'\n')?;
-    Ok(refused(alloc, shape, text.as_slice()))
+    Ok(refusal_of(alloc, shape, text.as_slice()))
 }
 
 // This is said of each of these lines, behind a root.
@@ -238,14 +238,14 @@ fn refuses_texts_out_of_order(rt: HostRuntime) -> Result<(), Fail> {
     let shape = market_shape(alloc)?;
     let child = b"snapshot 1\nat /Hall[1] count=0\n".as_slice();
     let order = Some(ShotError::Order { line: 2 });
-    is_shot_fault(&rt, refused(alloc, &shape, child), order);
+    is_shot_fault(&rt, refusal_of(alloc, &shape, child), order);
     let late = b"snapshot 3\nat / seen=0\nat /Cell[2]\nat /Cell[1]\n".as_slice();
     let order = Some(ShotError::Order { line: 4 });
-    is_shot_fault(&rt, refused(alloc, &shape, late), order);
+    is_shot_fault(&rt, refusal_of(alloc, &shape, late), order);
     let parent =
         b"snapshot 3\nat / seen=0\nat /Hall[2]/Stall[1] open=true label=\"\" best={}\nat /Hall[2] count=0\n".as_slice();
     let order = Some(ShotError::Order { line: 3 });
-    is_shot_fault(&rt, refused(alloc, &shape, parent), order);
+    is_shot_fault(&rt, refusal_of(alloc, &shape, parent), order);
     Ok(())
 }
 
@@ -260,7 +260,7 @@ fn add_pairs(alloc: Global, text: &mut Vec<u8>, pairs: usize) -> Result<(), Fail
 }
 
 // What is said of a Stall with a label of so many bytes, and so many pairs.
-fn sized(alloc: Global, bytes: usize, pairs: usize) -> Result<Option<ShotError>, Fail> {
+fn sized_snapshot(alloc: Global, bytes: usize, pairs: usize) -> Result<Option<ShotError>, Fail> {
     let mut text = Vec::from_slice(alloc, b"snapshot 3\nat / seen=0\nat /Hall[1] count=0\n")?;
     text.extend_from_slice(b"at /Hall[1]/Stall[1] open=true label=\"")?;
     for _ in 0..bytes {
@@ -270,15 +270,15 @@ fn sized(alloc: Global, bytes: usize, pairs: usize) -> Result<Option<ShotError>,
     add_pairs(alloc, &mut text, pairs)?;
     text.extend_from_slice(b"}\n")?;
     let shape = market_shape(alloc)?;
-    Ok(refused(alloc, &shape, text.as_slice()))
+    Ok(refusal_of(alloc, &shape, text.as_slice()))
 }
 
 #[test]
 fn knows_the_limits_of_values(rt: HostRuntime) -> Result<(), Fail> {
     let alloc = rt.alloc();
     let field = Some(ShotError::Field { line: 4 });
-    assert!(rt; sized(alloc, 1000, 1000)?.is_none());
-    is_shot_fault(&rt, sized(alloc, 1001, 0)?, field);
-    is_shot_fault(&rt, sized(alloc, 0, 1001)?, field);
+    assert!(rt; sized_snapshot(alloc, 1000, 1000)?.is_none());
+    is_shot_fault(&rt, sized_snapshot(alloc, 1001, 0)?, field);
+    is_shot_fault(&rt, sized_snapshot(alloc, 0, 1001)?, field);
     Ok(())
 }

@@ -2,7 +2,7 @@
 
 ghost use Rattle.std.specs.Prelude.{◌≡◌, ◌∷◌, [], length, IfOk};
 
-use crate::listings::ended;
+use crate::listings::ended_result;
 use crate::shapes::event_shape;
 use elastic_policy::Stages;
 use script_reader::read_elastic;
@@ -16,7 +16,7 @@ fn one_result(alloc: Global, outcome: Outcome) -> Result<Seq<EventResult>, OutOf
     ensures { IfOk result (λ rs. length rs ≡ 1) }
 {
     let mut results = Seq::new(alloc);
-    results.add(ended(alloc, outcome))?;
+    results.add(ended_result(alloc, outcome))?;
     Ok(results)
 }
 
@@ -29,7 +29,7 @@ fn one_shot(alloc: Global, path: Path) -> Result<Seq<Shot>, OutOfMemory> {
 }
 
 // A run of one ticket, which entered the root; it is alone, on host 0.
-fn done(alloc: Global) -> Result<Finished, OutOfMemory>
+fn nothing_done(alloc: Global) -> Result<Finished, OutOfMemory>
     ensures places { IfOk result (λ f. f.places ≡ record { path = []; host = record { 0 = 0 } } ∷ []) }
     ensures loads { IfOk result (λ f. f.loads ≡ 1 ∷ []) }
     ensures results { IfOk result (λ f. length f.results ≡ 1) }
@@ -61,10 +61,10 @@ fn pieces_come_one_after_the_other(rt: HostRuntime) -> Result<(), Fail> {
     let elastic = read_elastic(alloc, &shape, text)?;
     let mut stages = Stages::first(alloc, &shape, elastic)?;
     assert!(rt; matches!(line(&stages.next(alloc)?), Some(Line::Snapshot)));
-    stages.after(done(alloc)?);
+    stages.after(nothing_done(alloc)?);
     assert!(rt; stages.start().next == Ticket(2));
     assert!(rt; matches!(line(&stages.next(alloc)?), Some(Line::Move(_, Host(1)))));
-    stages.after(done(alloc)?);
+    stages.after(nothing_done(alloc)?);
     assert!(rt; stages.start().next == Ticket(3));
     assert!(rt; stages.next(alloc)?.is_none());
     Ok(())

@@ -46,7 +46,7 @@ pub(super) fn start_for(
 type Run = (Finished, Seq<Label>);
 
 // A case from its first Start, by draws.
-pub(super) fn drawn(
+pub(super) fn draw_run(
     rt: &impl Abort,
     alloc: Global,
     case: &Case,

@@ -1,6 +1,6 @@
 //! Drives from the first Start and from another one.
 
-use super::cases::{drawn, drawn_at};
+use super::cases::{draw_run, drawn_at};
 use super::wants::{comes_to, place, places_are, reply};
 use crate::Case;
 use std::test::Fail;
@@ -16,7 +16,7 @@ const ONE_HIT: Case = Case {
 
 #[test]
 fn one_event_is_seven_labels(rt: HostRuntime) -> Result<(), Fail> {
-    let (finished, labels) = drawn(&rt, rt.alloc(), &ONE_HIT, 0)?;
+    let (finished, labels) = draw_run(&rt, rt.alloc(), &ONE_HIT, 0)?;
     assert!(rt; labels.as_slice() == one_event().as_slice());
     comes_to(&rt, &finished, &[reply(1)]);
     Ok(())
@@ -45,7 +45,7 @@ fn out_of_ticks(line: u32, col: u32) -> Outcome {
 // A hundred thousand turns are as many as an event may take.
 #[test]
 fn a_loop_runs_out_of_ticks(rt: HostRuntime) -> Result<(), Fail> {
-    let (finished, _) = drawn(&rt, rt.alloc(), &MANY_TURNS, 7)?;
+    let (finished, _) = draw_run(&rt, rt.alloc(), &MANY_TURNS, 7)?;
     comes_to(&rt, &finished, &[reply(4999950000), out_of_ticks(3, 5)]);
     Ok(())
 }

@@ -126,7 +126,7 @@ fn has_come_to(
 }
 
 // What a machine tells that is finished.
-fn told(rt: &impl Abort, machine: Machine) -> Result<Finished, OutOfMemory> {
+fn finished_of(rt: &impl Abort, machine: Machine) -> Result<Finished, OutOfMemory> {
     machine_stands(&machine);
     if machine.is_finished() {
         match machine.into_finished() {
@@ -190,7 +190,7 @@ fn one_event_is_taken_label_by_label(rt: HostRuntime) -> Result<(), Fail> {
     let plan = plan_for(&rt, alloc, &ONE_HIT);
     let mut machine = begun(alloc, &plan)?;
     goes_all_the_way(&rt, alloc, &plan, &mut machine)?;
-    comes_to(&rt, &told(&rt, machine)?, &[reply(1)]);
+    comes_to(&rt, &finished_of(&rt, machine)?, &[reply(1)]);
     Ok(())
 }
 
@@ -211,7 +211,7 @@ fn moves(rt: &impl Abort, alloc: Global) -> Result<Finished, OutOfMemory> {
     let start = start_for(rt, alloc, &plan, Host(1), Ticket(8))?;
     let mut machine = Machine::new_at(alloc, &plan, &start)?;
     take_first(alloc, &plan, &mut machine, 100)?;
-    told(rt, machine)
+    finished_of(rt, machine)
 }
 
 #[test]

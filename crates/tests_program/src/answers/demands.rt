@@ -1,6 +1,6 @@
 //! Each thing that is asked of a service is told where a text breaks it, and of no other text.
 
-use super::{due, has, joined, rows, rows_of, second, sides, unmarked};
+use super::{due, has, join, rows, rows_of, second, sides, without_mark};
 use std::alloc::Global;
 use std::process::Abort;
 use std::test::Fail;
@@ -44,7 +44,7 @@ fn part_or<'t>(here: Part, part: Part, text: &'t [u8], fine: &'t [u8]) -> &'t [u
 // A service with two classes one in the other, three fields, methods of each class, and an event; one part of it is given.
 fn service_with(alloc: Global, part: Part, text: &[u8]) -> Result<Vec<u8>, OutOfMemory> {
     if part == Part::Whole {
-        return joined(alloc, &[text]);
+        return join(alloc, &[text]);
     }
     let pieces = [
         b"service S { var r: int = 0; context A[int] { var f: int = 0; context B[int] { var g: map = empty; method m(x: int): int { ".as_slice(),
@@ -57,7 +57,7 @@ fn service_with(alloc: Global, part: Part, text: &[u8]) -> Result<Vec<u8>, OutOf
         part_or(Part::Rest, part, text, b"reply 1;"),
         b" } }",
     ];
-    joined(alloc, &pieces)
+    join(alloc, &pieces)
 }
 
 // The fault of a service of one line is told at its mark.
@@ -67,8 +67,8 @@ fn tells_at_mark(
     fault: &[u8],
     marked: &[u8],
 ) -> Result<(), OutOfMemory> {
-    let (column, service) = unmarked(alloc, marked)?;
-    let mut note = joined(alloc, &[fault, b" 1:"])?;
+    let (column, service) = without_mark(alloc, marked)?;
+    let mut note = join(alloc, &[fault, b" 1:"])?;
     put_number(alloc, &mut note, column)?;
     refuses(rt, alloc, service.as_slice(), note.as_slice())
 }

@@ -1,7 +1,7 @@
 //! Services at their limits, and one past them.
 
 use super::demands::{accepts, refuses};
-use super::{Answer, due, has, joined};
+use super::{Answer, due, has, join};
 use std::alloc::Global;
 use std::process::Abort;
 use std::test::Fail;
@@ -17,7 +17,7 @@ fn many(
     back: &[u8],
     count: u64,
 ) -> Result<Vec<u8>, OutOfMemory> {
-    let mut text = joined(alloc, &[b"service L { ", front])?;
+    let mut text = join(alloc, &[b"service L { ", front])?;
     for i in 0..count {
         text.extend_from_slice(before)?;
         put_number(alloc, &mut text, i)?;
@@ -29,7 +29,7 @@ fn many(
 }
 
 // So many classes, each in the one before.
-fn nested(alloc: Global, count: usize) -> Result<Vec<u8>, OutOfMemory> {
+fn nest_of(alloc: Global, count: usize) -> Result<Vec<u8>, OutOfMemory> {
     let closing = Vec::from_elem(alloc, b'}', count)?;
     many(
         alloc,
@@ -42,7 +42,7 @@ fn nested(alloc: Global, count: usize) -> Result<Vec<u8>, OutOfMemory> {
 }
 
 // A service of one declaration, which has so many equal bytes between a front and a back.
-fn repeated(
+fn repeat(
     alloc: Global,
     front: &[u8],
     byte: u8,
@@ -50,16 +50,16 @@ fn repeated(
     back: &[u8],
 ) -> Result<Vec<u8>, OutOfMemory> {
     let bytes = Vec::from_elem(alloc, byte, count)?;
-    let text = joined(alloc, &[front, bytes.as_slice()])?;
+    let text = join(alloc, &[front, bytes.as_slice()])?;
     many(alloc, text.as_slice(), b"", b"", back, 0)
 }
 
 #[test]
 fn a_name_has_at_most_64_bytes(rt: HostRuntime) -> Result<(), Fail> {
     let alloc = rt.alloc();
-    let most = repeated(alloc, b"event ", b'n', 64, b"() { }")?;
+    let most = repeat(alloc, b"event ", b'n', 64, b"() { }")?;
     accepts(&rt, alloc, most.as_slice())?;
-    let more = repeated(alloc, b"event ", b'n', 65, b"() { }")?;
+    let more = repeat(alloc, b"event ", b'n', 65, b"() { }")?;
     refuses(&rt, alloc, more.as_slice(), b"L4 NameLong 1:19")?;
     Ok(())
 }
@@ -67,9 +67,9 @@ fn a_name_has_at_most_64_bytes(rt: HostRuntime) -> Result<(), Fail> {
 #[test]
 fn a_text_in_a_service_has_at_most_200_bytes(rt: HostRuntime) -> Result<(), Fail> {
     let alloc = rt.alloc();
-    let most = repeated(alloc, b"var t: text = \"", b'x', 200, b"\";")?;
+    let most = repeat(alloc, b"var t: text = \"", b'x', 200, b"\";")?;
     accepts(&rt, alloc, most.as_slice())?;
-    let more = repeated(alloc, b"var t: text = \"", b'x', 201, b"\";")?;
+    let more = repeat(alloc, b"var t: text = \"", b'x', 201, b"\";")?;
     refuses(&rt, alloc, more.as_slice(), b"L5 TextLong 1:27")?;
     Ok(())
 }
@@ -77,8 +77,8 @@ fn a_text_in_a_service_has_at_most_200_bytes(rt: HostRuntime) -> Result<(), Fail
 // A service whose event replies a number in so many parentheses.
 fn in_parentheses(alloc: Global, count: usize) -> Result<Vec<u8>, OutOfMemory> {
     let closing = Vec::from_elem(alloc, b')', count)?;
-    let back = joined(alloc, &[b"1", closing.as_slice(), b"; }"])?;
-    repeated(
+    let back = join(alloc, &[b"1", closing.as_slice(), b"; }"])?;
+    repeat(
         alloc,
         b"event e(): int { reply ",
         b'(',
@@ -100,9 +100,9 @@ fn parentheses_are_at_most_62_deep_in_an_event(rt: HostRuntime) -> Result<(), Fa
 #[test]
 fn classes_are_at_most_eight_deep(rt: HostRuntime) -> Result<(), Fail> {
     let alloc = rt.alloc();
-    let eight = nested(alloc, 8)?;
+    let eight = nest_of(alloc, 8)?;
     accepts(&rt, alloc, eight.as_slice())?;
-    let nine = nested(alloc, 9)?;
+    let nine = nest_of(alloc, 9)?;
     refuses(&rt, alloc, nine.as_slice(), b"Y8 Limit 1:165")?;
     Ok(())
 }
@@ -163,7 +163,7 @@ fn two_thousand_declarations_are_read_and_typed(rt: HostRuntime) -> Result<(), F
 fn a_service_has_at_most_262144_bytes(rt: HostRuntime) -> Result<(), Fail> {
     let alloc = rt.alloc();
     let blanks = Vec::from_elem(alloc, b' ', 262_131)?;
-    let mut text = joined(alloc, &[b"service L { }", blanks.as_slice()])?;
+    let mut text = join(alloc, &[b"service L { }", blanks.as_slice()])?;
     accepts(&rt, alloc, text.as_slice())?;
     text.push(b' ')?;
     refuses(&rt, alloc, text.as_slice(), b"TooLarge service")?;
@@ -171,8 +171,8 @@ fn a_service_has_at_most_262144_bytes(rt: HostRuntime) -> Result<(), Fail> {
 }
 
 // What is due for a script of a service that says nothing.
-fn scripted(rt: &impl Abort, alloc: Global, script: &[u8]) -> Result<Answer, OutOfMemory> {
-    let input = joined(alloc, &[b"service L { }\n----\n", script])?;
+fn run_script(rt: &impl Abort, alloc: Global, script: &[u8]) -> Result<Answer, OutOfMemory> {
+    let input = join(alloc, &[b"service L { }\n----\n", script])?;
     due(rt, alloc, "seq", input.as_slice())
 }
 
@@ -180,10 +180,10 @@ fn scripted(rt: &impl Abort, alloc: Global, script: &[u8]) -> Result<Answer, Out
 fn a_script_has_at_most_1048576_bytes(rt: HostRuntime) -> Result<(), Fail> {
     let alloc = rt.alloc();
     let mut script = Vec::from_elem(alloc, b' ', 1_048_576)?;
-    let most = scripted(&rt, alloc, script.as_slice())?;
+    let most = run_script(&rt, alloc, script.as_slice())?;
     has(&rt, &most, 0, b"", b"done 0\n");
     script.push(b' ')?;
-    let more = scripted(&rt, alloc, script.as_slice())?;
+    let more = run_script(&rt, alloc, script.as_slice())?;
     has(&rt, &more, 4, b"TooLarge script", b"");
     Ok(())
 }

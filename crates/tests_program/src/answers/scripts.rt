@@ -1,6 +1,6 @@
 //! Script lines: those that are fine, and what is told of those that aren't.
 
-use super::{Answer, due, has, is_text, joined, rows_of, sides};
+use super::{Answer, due, has, is_text, join, rows_of, sides};
 use std::alloc::Global;
 use std::process::Abort;
 use std::test::Fail;
@@ -78,14 +78,14 @@ S6 HostRange: hosts 18446744073709551617
 const EARLIER: [&[u8]; 4] = [b"snapshot", b"settle", b"hosts 2", b"request i(1)"];
 
 // What is due for a script of these pieces.
-fn answered(rt: &impl Abort, alloc: Global, pieces: &[&[u8]]) -> Result<Answer, OutOfMemory> {
-    let script = joined(alloc, pieces)?;
-    let input = joined(alloc, &[FORMS, script.as_slice()])?;
+fn answer_of(rt: &impl Abort, alloc: Global, pieces: &[&[u8]]) -> Result<Answer, OutOfMemory> {
+    let script = join(alloc, pieces)?;
+    let input = join(alloc, &[FORMS, script.as_slice()])?;
     due(rt, alloc, "seq", input.as_slice())
 }
 
 fn runs(rt: &impl Abort, alloc: Global, pieces: &[&[u8]]) -> Result<(), OutOfMemory> {
-    let answer = answered(rt, alloc, pieces)?;
+    let answer = answer_of(rt, alloc, pieces)?;
     is_text(rt, answer.ends.notes.bytes(), b"");
     assert_eq!(rt; answer.status, 0);
     Ok(())
@@ -98,8 +98,8 @@ fn refuses(
     name: &[u8],
     line: &[u8],
 ) -> Result<(), OutOfMemory> {
-    let answer = answered(rt, alloc, pieces)?;
-    let note = joined(alloc, &[name, line])?;
+    let answer = answer_of(rt, alloc, pieces)?;
+    let note = join(alloc, &[name, line])?;
     has(rt, &answer, 4, note.as_slice(), b"");
     Ok(())
 }
@@ -143,7 +143,7 @@ fn hosts_come_first(rt: HostRuntime) -> Result<(), Fail> {
 // A request with a text of so many bytes.
 fn with_text(alloc: Global, count: usize) -> Result<Vec<u8>, OutOfMemory> {
     let text = Vec::from_elem(alloc, b'x', count)?;
-    joined(alloc, &[b"request b(true,\"", text.as_slice(), b"\")"])
+    join(alloc, &[b"request b(true,\"", text.as_slice(), b"\")"])
 }
 
 #[test]

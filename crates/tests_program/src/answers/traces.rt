@@ -1,6 +1,6 @@
 //! Scripts that are traced: the listing, and behind it the journal of the run.
 
-use super::{Answer, due, has, joined, unmarked};
+use super::{Answer, due, has, join, without_mark};
 use std::alloc::Global;
 use std::process::Abort;
 use std::test::Fail;
@@ -15,7 +15,7 @@ fn gives(
     status: u8,
     listing: &[u8],
 ) -> Result<(), OutOfMemory> {
-    let text = joined(alloc, &[listing, ONE_EVENT])?;
+    let text = join(alloc, &[listing, ONE_EVENT])?;
     has(rt, answer, status, b"", text.as_slice());
     Ok(())
 }
@@ -35,7 +35,7 @@ fn the_journal_stands_behind_the_listing(rt: HostRuntime) -> Result<(), Fail> {
 #[test]
 fn a_trap_is_traced_too(rt: HostRuntime) -> Result<(), Fail> {
     let alloc = rt.alloc();
-    let (column, input) = unmarked(
+    let (column, input) = without_mark(
         alloc,
         b"service S { event e() { here { ^require 1 < 0; } } }\n----\nrequest e()\n",
     )?;

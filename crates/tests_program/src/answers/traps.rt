@@ -1,6 +1,6 @@
 //! Events that trap: a row for each way to a trap, with its place; and what an event that traps leaves behind.
 
-use super::{due, has, joined, rows_of, sides, unmarked};
+use super::{due, has, join, rows_of, sides, without_mark};
 use std::alloc::Global;
 use std::process::Abort;
 use std::test::Fail;
@@ -59,9 +59,9 @@ fn gives(rt: &impl Abort, alloc: Global, input: &[u8], listing: &[u8]) -> Result
 fn traps(rt: &impl Abort, alloc: Global, table: &[u8]) -> Result<(), OutOfMemory> {
     for row in rows_of(rt, alloc, table)?.as_slice() {
         let (kind, phases) = sides(row);
-        let marked = joined(alloc, &[FRONT, phases, BACK])?;
-        let (column, input) = unmarked(alloc, marked.as_slice())?;
-        let mut listing = joined(alloc, &[b"#1 e trap ", kind, b" at 1:"])?;
+        let marked = join(alloc, &[FRONT, phases, BACK])?;
+        let (column, input) = without_mark(alloc, marked.as_slice())?;
+        let mut listing = join(alloc, &[b"#1 e trap ", kind, b" at 1:"])?;
         put_number(alloc, &mut listing, column)?;
         listing.extend_from_slice(b"\ndone 1\n")?;
         gives(rt, alloc, input.as_slice(), listing.as_slice())?;

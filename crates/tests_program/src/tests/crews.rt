@@ -1,6 +1,6 @@
 //! Rows by one worker and by many, whose output is the same; and the journal that stands behind it.
 
-use super::rows::{Case, all_hold, holds, joined, plain, ran_on, traps, works};
+use super::rows::{Case, all_hold, holds, join, plain, ran_on, traps, works};
 use super::services::{EDGE, TICK};
 use std::alloc::Global;
 use std::process::Abort;
@@ -63,7 +63,7 @@ fn traces<R: Abort + Threads + Wait + Sync>(
     alloc: Global,
     case: &Case,
 ) -> Result<(), Fail> {
-    let input = joined(alloc, case.service, case.script)?;
+    let input = join(alloc, case.service, case.script)?;
     let (status, out) = ran_on(rt, alloc, case.words, input.as_slice(), &OpenGate)?;
     assert_eq!(rt; status, case.status);
     assert!(rt; out.bytes().starts_with(case.out));

@@ -1,7 +1,7 @@
 //! Gates that hold events, or count them.
 
 use super::crews::MOVED;
-use super::rows::{joined, ran_on};
+use super::rows::{join, ran_on};
 use std::alloc::Global;
 use std::hint::spin_loop;
 use std::sync::Wait;
@@ -57,7 +57,7 @@ fn four_buy<R: Threads + Wait + Sync>(
     words: &str,
     script: &[u8],
 ) -> Result<(u64, u64), OutOfMemory> {
-    let input = joined(alloc, MARKET, script)?;
+    let input = join(alloc, MARKET, script)?;
     let gate = Crowd {
         many: 4,
         come: AtomicU64::new(0),
@@ -116,12 +116,12 @@ fn times_in(text: &[u8], part: &[u8]) -> usize {
 #[test]
 fn two_segments_are_out_at_once(rt: HostRuntime) -> Result<(), Fail> {
     let alloc = rt.alloc();
-    let input = joined(alloc, MARKET, b"request buy(1,1,1)\nrequest buy(1,2,1)\n")?;
+    let input = join(alloc, MARKET, b"request buy(1,1,1)\nrequest buy(1,2,1)\n")?;
     for words in ["run --workers 2", "trace --workers 2"] {
         let gate = Meeting::at(stall(1, 1), stall(1, 2));
         let (status, out) = ran_on(&rt, alloc, words, input.as_slice(), &gate)?;
         assert_eq!(rt; status, 0);
-        assert!(rt; !gate.missed());
+        assert!(rt; !gate.has_missed());
         if words.starts_with("trace") {
             for started in [
                 b"Start #1 /Hall[1]/Stall[1]\n",
@@ -206,7 +206,7 @@ impl Gate for Counting {
 #[test]
 fn each_segment_comes_to_the_gate_once(rt: HostRuntime) -> Result<(), Fail> {
     let alloc = rt.alloc();
-    let input = joined(alloc, MARKET, MOVES)?;
+    let input = join(alloc, MARKET, MOVES)?;
     for words in [
         "run --map --workers 1",
         "run --map --workers 4",

@@ -1,7 +1,7 @@
 //! Want of memory.
 
 use super::crews::MOVED;
-use super::rows::{joined, ran_on};
+use super::rows::{join, ran_on};
 use std::test::Fail;
 use tests_services::{MARKET, MOVES};
 use wave_io::OpenGate;
@@ -11,7 +11,7 @@ use wave_io::OpenGate;
 fn memory_is_wanted(rt: HostRuntime) -> Result<(), Fail> {
     let alloc = rt.alloc();
     for words in ["run --map --workers 2", "trace --map --workers 2"] {
-        let Ok(input) = joined(alloc, MARKET, MOVES) else {
+        let Ok(input) = join(alloc, MARKET, MOVES) else {
             return Ok(());
         };
         let Ok((status, out)) = ran_on(&rt, alloc, words, input.as_slice(), &OpenGate) else {

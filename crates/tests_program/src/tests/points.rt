@@ -1,6 +1,6 @@
 //! Checkpoints: a run whose point is saved, and runs that go on from one.
 
-use super::rows::{Row, holds, joined, plain, ran_on};
+use super::rows::{Row, holds, join, plain, ran_on};
 use std::alloc::Global;
 use std::process::Abort;
 use std::sync::Wait;
@@ -41,7 +41,7 @@ fn with_point(
     point: &[u8],
     script: &[u8],
 ) -> Result<Vec<u8>, OutOfMemory> {
-    let mut input = joined(alloc, service, point)?;
+    let mut input = join(alloc, service, point)?;
     input.extend_from_slice(b"----\n")?;
     input.extend_from_slice(script)?;
     Ok(input)
@@ -71,7 +71,7 @@ fn saves<R: Abort + Threads + Wait + Sync>(
     script: &[u8],
     wanted: Wanted,
 ) -> Result<(), OutOfMemory> {
-    let input = joined(alloc, service, script)?;
+    let input = join(alloc, service, script)?;
     let row = plain("save", input.as_slice(), wanted.0, wanted.1, wanted.2);
     holds(rt, alloc, &row)
 }
@@ -107,7 +107,7 @@ fn resumes_with<R: Abort + Threads + Wait + Sync>(
 fn a_point_is_saved(rt: HostRuntime) -> Result<(), Fail> {
     let alloc = rt.alloc();
     let saved = point(alloc)?;
-    let input = joined(alloc, MARKET, SALE)?;
+    let input = join(alloc, MARKET, SALE)?;
     for words in ["save", "save --workers 1", "save --workers 16"] {
         holds(
             &rt,
@@ -205,7 +205,7 @@ fn a_point_is_refused(rt: HostRuntime) -> Result<(), Fail> {
 #[test]
 fn refusals_of_a_resumed_script_in_order(rt: HostRuntime) -> Result<(), Fail> {
     let alloc = rt.alloc();
-    let two = joined(alloc, MARKET, SALE)?;
+    let two = join(alloc, MARKET, SALE)?;
     holds(
         &rt,
         alloc,
@@ -271,7 +271,7 @@ fn fails_at_each<R: Abort + Threads + Wait + Sync>(
 fn each_read_and_each_write_of_a_point_fails(rt: HostRuntime) -> Result<(), Fail> {
     let alloc = rt.alloc();
     let saved = point(alloc)?;
-    let first = joined(alloc, MARKET, SALE)?;
+    let first = join(alloc, MARKET, SALE)?;
     fails_at_each(&rt, alloc, "save", first.as_slice(), saved.as_slice())?;
     let second = market_point(alloc, b"")?;
     fails_at_each(&rt, alloc, "resume", second.as_slice(), b"done 1\n")?;
@@ -280,7 +280,7 @@ fn each_read_and_each_write_of_a_point_fails(rt: HostRuntime) -> Result<(), Fail
 
 // The market, and a script of these two batches.
 fn in_batches(alloc: Global, one: &[u8], other: &[u8]) -> Result<Vec<u8>, OutOfMemory> {
-    let mut input = joined(alloc, MARKET, one)?;
+    let mut input = join(alloc, MARKET, one)?;
     input.extend_from_slice(b"settle\n")?;
     input.extend_from_slice(other)?;
     Ok(input)
@@ -295,7 +295,7 @@ fn two_halves_are_the_whole(rt: HostRuntime) -> Result<(), Fail> {
         b"request buy(2,1,4)\nmove /Hall[1]/Stall[1] to 1\nrequest pair(1)\nsnapshot\n";
     let whole = in_batches(alloc, one, other)?;
     let (_, listed) = ran_on(&rt, alloc, "run --map", whole.as_slice(), &OpenGate)?;
-    let first = joined(alloc, MARKET, one)?;
+    let first = join(alloc, MARKET, one)?;
     let (_, saved) = ran_on(&rt, alloc, "save", first.as_slice(), &OpenGate)?;
     let second = with_point(alloc, MARKET, saved.bytes(), other)?;
     for words in [

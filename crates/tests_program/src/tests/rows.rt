@@ -206,7 +206,7 @@ pub fn refuses<'a>(service: &'a [u8], script: &'a [u8], note: &'a [u8]) -> Case<
 }
 
 /// A service, a `----` line, and a script.
-pub fn joined(alloc: Global, service: &[u8], script: &[u8]) -> Result<Vec<u8>, OutOfMemory> {
+pub fn join(alloc: Global, service: &[u8], script: &[u8]) -> Result<Vec<u8>, OutOfMemory> {
     let mut input = Vec::from_slice(alloc, service)?;
     input.extend_from_slice(b"----\n")?;
     input.extend_from_slice(script)?;
@@ -220,7 +220,7 @@ pub fn all_hold<R: Abort + Threads + Wait + Sync>(
     cases: &[Case],
 ) -> Result<(), Fail> {
     for case in cases {
-        let input = joined(alloc, case.service, case.script)?;
+        let input = join(alloc, case.service, case.script)?;
         let row = plain(
             case.words,
             input.as_slice(),

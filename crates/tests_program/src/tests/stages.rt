@@ -1,6 +1,6 @@
 //! Scripts with policies, which are run piece by piece.
 
-use super::rows::{Case, all_hold, broken, holds, joined, plain, refuses};
+use super::rows::{Case, all_hold, broken, holds, join, plain, refuses};
 use super::services::EDGE;
 use std::alloc::Global;
 use std::process::Abort;
@@ -366,7 +366,7 @@ place /Stone[2] 1
 };
 
 // The lines of the events, the places or none, and the last line.
-fn listed(alloc: Global, staged: &Staged, places: &[u8]) -> Result<Vec<u8>, OutOfMemory> {
+fn listing_of(alloc: Global, staged: &Staged, places: &[u8]) -> Result<Vec<u8>, OutOfMemory> {
     let mut text = Vec::from_slice(alloc, staged.lines)?;
     text.extend_from_slice(places)?;
     text.extend_from_slice(staged.last)?;
@@ -381,8 +381,8 @@ fn lists<R: Abort + Threads + Wait + Sync>(
     staged: &Staged,
     places: &[u8],
 ) -> Result<(), OutOfMemory> {
-    let input = joined(alloc, staged.service, staged.script)?;
-    let out = listed(alloc, staged, places)?;
+    let input = join(alloc, staged.service, staged.script)?;
+    let out = listing_of(alloc, staged, places)?;
     let row = plain(words, input.as_slice(), staged.status, out.as_slice(), b"");
     holds(rt, alloc, &row)
 }
@@ -490,8 +490,8 @@ fn each_write_fails<R: Abort + Threads + Wait + Sync>(
     alloc: Global,
     staged: &Staged,
 ) -> Result<(), OutOfMemory> {
-    let input = joined(alloc, staged.service, staged.script)?;
-    let whole = listed(alloc, staged, staged.places)?;
+    let input = join(alloc, staged.service, staged.script)?;
+    let whole = listing_of(alloc, staged, staged.places)?;
     let note: &[u8] = b"WriteFault\n";
     for (_, words) in ENGINES {
         let mut written = 0;

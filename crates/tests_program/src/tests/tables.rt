@@ -1,7 +1,7 @@
 //! Tables: each read and each write of a run that fails, each rule that picks, and the limits of events.
 
 use super::crews::{LOOKED, LOOKS, MOVED, WENT_TO_AND_FRO};
-use super::rows::{Row, all_hold, broken, holds, joined, plain, ran_on, traps, works};
+use super::rows::{Row, all_hold, broken, holds, join, plain, ran_on, traps, works};
 use std::test::Fail;
 use tests_services::{CHAIN, MARKET, MOVES, TO_AND_FRO};
 use wave_io::OpenGate;
@@ -20,7 +20,7 @@ const TWO_AND_ONE_LISTED: &[u8] =
 #[test]
 fn each_read_fails(rt: HostRuntime) -> Result<(), Fail> {
     let alloc = rt.alloc();
-    let input = joined(alloc, MARKET, THREE)?;
+    let input = join(alloc, MARKET, THREE)?;
     assert_eq!(rt; input.len(), 712);
     for words in ["run", "seq", "trace --workers 2", "run --schedule 5"] {
         for failing_read in 1..47 {
@@ -44,7 +44,7 @@ fn each_read_fails(rt: HostRuntime) -> Result<(), Fail> {
 #[test]
 fn each_write_fails(rt: HostRuntime) -> Result<(), Fail> {
     let alloc = rt.alloc();
-    let input = joined(alloc, MARKET, THREE)?;
+    let input = join(alloc, MARKET, THREE)?;
     assert_eq!(rt; THREE_LISTED.len(), 76);
     for words in ["run", "run --workers 4", "seq", "run --schedule 5"] {
         for before in 0..29 {
@@ -114,7 +114,7 @@ fn an_event_leaves_at_most_so_much(rt: HostRuntime) -> Result<(), Fail> {
         b"#1 calls ok\n#1 made #3\n#1 made #4\n#1 made #5\n#1 made #6\n#2 calls trap Spawns at 3:50\n#3 none ok\n#4 none ok\n#5 none ok\n#6 none ok\ndone 6\n",
     );
     all_hold(&rt, alloc, &[created])?;
-    let input = joined(alloc, service, b"request sends(64)\nrequest sends(65)\n")?;
+    let input = join(alloc, service, b"request sends(64)\nrequest sends(65)\n")?;
     let (status, out) = ran_on(&rt, alloc, "run", input.as_slice(), &OpenGate)?;
     assert_eq!(rt; status, 1);
     assert!(rt; out.bytes().starts_with(b"#1 sends ok\n#1 send \"m\" 0\n"));

@@ -9,5 +9,5 @@ add_result-requires-clause-fresh g c = ap (λ m. get m 8) (c.reserve.ensures.res
 
 pub add_result-requires-2-clause-fresh : goal.add_result-requires-2-clause-fresh
 add_result-requires-2-clause-fresh g c =
-    ap (λ m. get m 7) (c.reserve-2.ensures.results ∙ c.add_result.ensures.results ∙ ap (λ m. insert m 8 c.replied.result) (c.reserve.ensures.results ∙ c.new-commits.ensures.results))
-    ∙ get-insert nat_cmp_total empty 8 c.replied.result 7 ∙ get-empty nat_cmp 7
+    ap (λ m. get m 7) (c.reserve-2.ensures.results ∙ c.add_result.ensures.results ∙ ap (λ m. insert m 8 c.reply_of.result) (c.reserve.ensures.results ∙ c.new-commits.ensures.results))
+    ∙ get-insert nat_cmp_total empty 8 c.reply_of.result 7 ∙ get-empty nat_cmp 7

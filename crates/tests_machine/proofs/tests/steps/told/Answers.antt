@@ -1,7 +1,0 @@
-use Rattle.std.proofs.Common.{arith}
-use Rattle.tests_machine.proofs.tests.steps.told.Goals as goal
-
-pub into_finished-requires : goal.into_finished-requires
-into_finished-requires g c =
-    let on = c.machine_stands.ensures in
-    (on.start, on.state, on.stands, (c.finished.ensures on.start on.state on.stands).0 (first_of (cc, grind arith)))
