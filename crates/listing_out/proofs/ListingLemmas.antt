@@ -69,3 +69,12 @@ result_put out out' lines left left' all e f h = ap (λ z. z ++ left') e ∙ app
 
 pub end_put : (out out' lines left all whole : List ℕ) → out' ≡ out ++ lines → left ≡ [] → out ++ left ≡ all → all ++ lines ≡ whole → out' ≡ whole
 end_put out out' lines left all whole e f h w = e ∙ ap (λ z. z ++ lines) (sym (append-nil out) ∙ ap (λ z. out ++ z) (sym f) ∙ h) ∙ w
+
+-- the lines of a result, put one part behind the other
+pub parts_put : (out o1 o2 o3 o4 line : List ℕ) (shots messages made : List (List ℕ)) → o1 ≡ out ++ line → o2 ≡ o1 ++ concat shots → o3 ≡ o2 ++ concat messages → o4 ≡ o3 ++ concat made → o4 ≡ out ++ concat (line ∷ (shots ++ messages ++ made))
+parts_put out o1 o2 o3 o4 line shots messages made a b d e =
+    e ∙ ap (λ z. z ++ concat made) (d ∙ ap (λ z. z ++ concat messages) (b ∙ ap (λ z. z ++ concat shots) a))
+    ∙ append_assoc (out ++ line ++ concat shots) (concat messages) (concat made)
+    ∙ append_assoc (out ++ line) (concat shots) (concat messages ++ concat made)
+    ∙ append_assoc out line (concat shots ++ (concat messages ++ concat made))
+    ∙ ap (λ z. out ++ (line ++ z)) (sym (append_assoc (concat shots) (concat messages) (concat made)) ∙ ap (λ z. z ++ concat made) (sym (concat-append shots messages)) ∙ sym (concat-append (shots ++ messages) made))

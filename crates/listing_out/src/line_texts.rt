@@ -100,63 +100,67 @@ fn put_front(alloc: Global, out: &mut Vec<u8>, n: u64) -> Result<(), OutOfMemory
     put_bytes(out, b" ")
 }
 
-/// The line of how a ticket's job ended.
-pub(crate) fn outcome_line(
+/// Appends the line of how a ticket's job ended.
+pub(crate) fn put_outcome_line(
     alloc: Global,
+    out: &mut Vec<u8>,
     shape: &Shape,
     n: u64,
     name: Option<u16>,
     outcome: &Outcome,
-) -> Result<Seq<u8>, OutOfMemory>
-    ensures { IfOk result (λ line. line ≡ ticket_line n (outcome_text shape.now name outcome.now)) }
+) -> Result<(), OutOfMemory>
+    ensures { OnOk result (out.new.items ≡ out.old.items ++ ticket_line n (outcome_text shape.now name outcome.now)) }
 {
-    let mut line = Vec::new(alloc);
-    put_front(alloc, &mut line, n)?;
-    put_outcome(alloc, &mut line, shape, name, outcome)?;
-    put_bytes(&mut line, b"\n")?;
-    Ok(Seq::from_vec(line))
+    put_front(alloc, out, n)?;
+    put_outcome(alloc, out, shape, name, outcome)?;
+    put_bytes(out, b"\n")
 }
 
-/// The line of a context with its fields, as a snapshot of a ticket has it.
-pub(crate) fn shot_line(
+/// Appends the line of a context with its fields, as a snapshot of a ticket has it.
+pub(crate) fn put_shot_line(
     alloc: Global,
+    out: &mut Vec<u8>,
     shape: &Shape,
     n: u64,
     shot: &Shot,
-) -> Result<Seq<u8>, OutOfMemory>
-    ensures { IfOk result (λ line. line ≡ ticket_line n (shot_text shape.now shot.now)) }
+) -> Result<(), OutOfMemory>
+    ensures { OnOk result (out.new.items ≡ out.old.items ++ ticket_line n (shot_text shape.now shot.now)) }
 {
-    let mut line = Vec::new(alloc);
-    put_front(alloc, &mut line, n)?;
-    put_shot(alloc, &mut line, shape, shot)?;
-    put_bytes(&mut line, b"\n")?;
-    Ok(Seq::from_vec(line))
+    put_front(alloc, out, n)?;
+    put_shot(alloc, out, shape, shot)?;
+    put_bytes(out, b"\n")
 }
 
-/// The line of a message that a ticket's event sent.
-pub(crate) fn message_line(alloc: Global, n: u64, message: &Message) -> Result<Seq<u8>, OutOfMemory>
-    ensures { IfOk result (λ line. line ≡ ticket_line n (message_text message.now)) }
+/// Appends the line of a message that a ticket's event sent.
+pub(crate) fn put_message_line(
+    alloc: Global,
+    out: &mut Vec<u8>,
+    n: u64,
+    message: &Message,
+) -> Result<(), OutOfMemory>
+    ensures { OnOk result (out.new.items ≡ out.old.items ++ ticket_line n (message_text message.now)) }
 {
-    let mut line = Vec::new(alloc);
-    put_front(alloc, &mut line, n)?;
-    put_bytes(&mut line, b"send ")?;
-    put_quoted(&mut line, message.label.bytes())?;
-    put_bytes(&mut line, b" ")?;
-    put_value(alloc, &mut line, &message.value)?;
-    put_bytes(&mut line, b"\n")?;
-    Ok(Seq::from_vec(line))
+    put_front(alloc, out, n)?;
+    put_bytes(out, b"send ")?;
+    put_quoted(out, message.label.bytes())?;
+    put_bytes(out, b" ")?;
+    put_value(alloc, out, &message.value)?;
+    put_bytes(out, b"\n")
 }
 
-/// The line of a ticket that a ticket's event created.
-pub(crate) fn made_line(alloc: Global, n: u64, made: Ticket) -> Result<Seq<u8>, OutOfMemory>
-    ensures { IfOk result (λ line. line ≡ ticket_line n (made_text made)) }
+/// Appends the line of a ticket that a ticket's event created.
+pub(crate) fn put_made_line(
+    alloc: Global,
+    out: &mut Vec<u8>,
+    n: u64,
+    made: Ticket,
+) -> Result<(), OutOfMemory>
+    ensures { OnOk result (out.new.items ≡ out.old.items ++ ticket_line n (made_text made)) }
 {
-    let mut line = Vec::new(alloc);
-    put_front(alloc, &mut line, n)?;
-    put_bytes(&mut line, b"made #")?;
-    put_number(alloc, &mut line, u64::from(made.0))?;
-    put_bytes(&mut line, b"\n")?;
-    Ok(Seq::from_vec(line))
+    put_front(alloc, out, n)?;
+    put_bytes(out, b"made #")?;
+    put_number(alloc, out, u64::from(made.0))?;
+    put_bytes(out, b"\n")
 }
 
 /// The line of a context's host.

@@ -1,11 +1,14 @@
 //! The lines of a ticket, and those at the end of a listing.
 
 ghost use Rattle.std.specs.Prelude.{◌≡◌, ◌++◌, map, option_copied, OnOk, IfOk};
+ghost use Rattle.std.specs.List.{concat};
 ghost use Rattle.path_text.specs.ShotTexts.{shot_text};
 ghost use Rattle.listing_out.specs.LineTexts.{message_text, made_text, ticket_line, place_line};
 ghost use Rattle.listing_out.specs.Listing.{shots_in, result_lines, end_lines};
 
-use crate::line_texts::{done_line, made_line, message_line, outcome_line, place_line, shot_line};
+use crate::line_texts::{
+    done_line, place_line, put_made_line, put_message_line, put_outcome_line, put_shot_line,
+};
 use std::alloc::Global;
 use wave_base::{EventResult, Message, OutOfMemory, Outcome, Place, Seq, Shape, Shot, Ticket};
 
@@ -18,66 +21,60 @@ fn shots_in(outcome: &Outcome) -> &[Shot]
     }
 }
 
-fn add_shots(
+fn put_shots(
     alloc: Global,
-    lines: &mut Vec<Seq<u8>>,
+    out: &mut Vec<u8>,
     shape: &Shape,
     n: u64,
     shots: &[Shot],
 ) -> Result<(), OutOfMemory>
-    ensures { OnOk result (lines.new.items ≡ lines.old.items ++ map (λ s. ticket_line n (shot_text shape.now s)) shots.now) }
+    ensures { OnOk result (out.new.items ≡ out.old.items ++ concat (map (λ s. ticket_line n (shot_text shape.now s)) shots.now)) }
 {
     for shot in shots {
-        lines.push(shot_line(alloc, shape, n, shot)?)?;
+        put_shot_line(alloc, out, shape, n, shot)?;
     }
     Ok(())
 }
 
-fn add_messages(
+fn put_messages(
     alloc: Global,
-    lines: &mut Vec<Seq<u8>>,
+    out: &mut Vec<u8>,
     n: u64,
     messages: &[Message],
 ) -> Result<(), OutOfMemory>
-    ensures { OnOk result (lines.new.items ≡ lines.old.items ++ map (λ m. ticket_line n (message_text m)) messages.now) }
+    ensures { OnOk result (out.new.items ≡ out.old.items ++ concat (map (λ m. ticket_line n (message_text m)) messages.now)) }
 {
     for message in messages {
-        lines.push(message_line(alloc, n, message)?)?;
+        put_message_line(alloc, out, n, message)?;
     }
     Ok(())
 }
 
-fn add_made(
-    alloc: Global,
-    lines: &mut Vec<Seq<u8>>,
-    n: u64,
-    made: &[Ticket],
-) -> Result<(), OutOfMemory>
-    ensures { OnOk result (lines.new.items ≡ lines.old.items ++ map (λ t. ticket_line n (made_text t)) made.now) }
+fn put_made(alloc: Global, out: &mut Vec<u8>, n: u64, made: &[Ticket]) -> Result<(), OutOfMemory>
+    ensures { OnOk result (out.new.items ≡ out.old.items ++ concat (map (λ t. ticket_line n (made_text t)) made.now)) }
 {
     for ticket in made {
-        lines.push(made_line(alloc, n, *ticket)?)?;
+        put_made_line(alloc, out, n, *ticket)?;
     }
     Ok(())
 }
 
-/// The lines of one ticket, each with its line feed.
-pub(crate) fn result_lines(
+/// Appends the lines of one ticket, each with its line feed.
+pub(crate) fn put_result(
     alloc: Global,
+    out: &mut Vec<u8>,
     shape: &Shape,
     n: u64,
     name: Option<u16>,
     result_: &EventResult,
     made: &[Ticket],
-) -> Result<Vec<Seq<u8>>, OutOfMemory>
-    ensures { IfOk result (λ lines. lines.items ≡ result_lines shape.now n name result_.now made.now) }
+) -> Result<(), OutOfMemory>
+    ensures { OnOk result (out.new.items ≡ out.old.items ++ concat (result_lines shape.now n name result_.now made.now)) }
 {
-    let mut lines = Vec::new(alloc);
-    lines.push(outcome_line(alloc, shape, n, name, &result_.outcome)?)?;
-    add_shots(alloc, &mut lines, shape, n, shots_in(&result_.outcome))?;
-    add_messages(alloc, &mut lines, n, result_.messages.as_slice())?;
-    add_made(alloc, &mut lines, n, made)?;
-    Ok(lines)
+    put_outcome_line(alloc, out, shape, n, name, &result_.outcome)?;
+    put_shots(alloc, out, shape, n, shots_in(&result_.outcome))?;
+    put_messages(alloc, out, n, result_.messages.as_slice())?;
+    put_made(alloc, out, n, made)
 }
 
 fn add_places(

@@ -4,7 +4,7 @@ ghost use Rattle.std.specs.Prelude.{◌≡◌, ◌++◌, ◌+◌, ◌-◌, ◌^�
 ghost use Rattle.std.specs.List.{concat};
 ghost use Rattle.listing_out.specs.Listing.{name_at, made_at, places_of, last_ticket, listing};
 
-use crate::lines::{end_lines, result_lines};
+use crate::lines::{end_lines, put_result};
 use std::alloc::Global;
 use wave_base::{Finished, OutOfMemory, Place, Seq, Shape, Ticket};
 use wave_text::put_bytes;
@@ -79,8 +79,15 @@ pub fn listing(
     let mut out = Vec::new(alloc);
     for (i, result_) in done.results.as_slice().iter().enumerate() {
         let n = ticket_at(first, i);
-        let lines = result_lines(alloc, shape, n, name_at(done, i), result_, made_at(done, i))?;
-        put_lines(&mut out, lines.as_slice())?;
+        put_result(
+            alloc,
+            &mut out,
+            shape,
+            n,
+            name_at(done, i),
+            result_,
+            made_at(done, i),
+        )?;
     }
     let last = last_ticket(first, done);
     let lines = end_lines(alloc, shape, places_of(done, map), last)?;

@@ -3,12 +3,11 @@
 ghost use Rattle.std.specs.Prelude.{◌≡◌, ◌+◌, ◌-◌, ◌^◌, ◌≤◌, length, option_copied, IfOk, OnOk, OnErr, IsErrOf};
 ghost use Rattle.std.specs.List.{concat};
 ghost use Rattle.std.specs.Io.KnownBytes.{Appends};
-ghost use Rattle.wave_io.specs.Causes.{HasCause, Rose};
-ghost use Rattle.wave_io.specs.Held.{Takes, TakesFront};
+ghost use Rattle.wave_io.specs.Causes.{Rose};
 ghost use Rattle.wave_io.specs.Streams.{AppendsFront};
 ghost use Rattle.listing_out.specs.Listing.{lines_from, shown_of, end_lines, listing};
 
-use crate::lines::{end_lines, result_lines};
+use crate::lines::{end_lines, put_result};
 use crate::whole::{last_ticket, made_at, name_at, places_of, put_lines, ticket_at};
 use std::alloc::Global;
 use thiserror::Error;
@@ -48,18 +47,6 @@ impl From<Failed> for ListError {
     }
 }
 
-// Takes lines, each as a whole.
-fn hold_each<K: Sink>(held: &mut HeldBytes, sink: &mut K, lines: &[Seq<u8>]) -> Result<(), Failed>
-    ensures ok { OnOk result (Takes held.old held.new (K.written sink.old) (K.written sink.new) (concat lines.now)) }
-    ensures err { OnErr result (TakesFront held.old held.new (K.written sink.old) (K.written sink.new) (concat lines.now)) }
-    ensures cause { HasCause (K.faults sink.old) (K.faults sink.new) result }
-{
-    for line in lines {
-        held.write_all(sink, line.as_slice())?;
-    }
-    Ok(())
-}
-
 // The lines of tickets, of which the first is `from`, as bytes.
 fn lines_in_one(
     alloc: Global,
@@ -74,8 +61,7 @@ fn lines_in_one(
     for (i, shown) in part.as_slice().iter().enumerate() {
         let n = ticket_at(from, i);
         let made = shown.made.as_slice();
-        let lines = result_lines(alloc, shape, n, shown.name, &shown.result, made)?;
-        put_lines(&mut bytes, lines.as_slice())?;
+        put_result(alloc, &mut bytes, shape, n, shown.name, &shown.result, made)?;
     }
     Ok(bytes)
 }
@@ -154,10 +140,20 @@ pub fn write_results<K: Sink>(
     ensures later { K.faults sink.old ≤ K.faults sink.new }
 {
     let mut held = HeldBytes::new(alloc)?;
+    let mut text = Vec::new(alloc);
     for (i, result_) in done.results.as_slice().iter().enumerate() {
         let n = ticket_at(first, i);
-        let lines = result_lines(alloc, shape, n, name_at(done, i), result_, made_at(done, i))?;
-        hold_each(&mut held, sink, lines.as_slice())?;
+        text.clear();
+        put_result(
+            alloc,
+            &mut text,
+            shape,
+            n,
+            name_at(done, i),
+            result_,
+            made_at(done, i),
+        )?;
+        held.write_all(sink, text.as_slice())?;
     }
     held.flush(sink)?;
     Ok(())

@@ -1,5 +1,4 @@
 pub mod Begins
-pub mod Behind
 pub mod ElasticProgressed
 pub mod ElasticSteps
 pub mod Gives

@@ -29,7 +29,7 @@ use wave_text::whole_of;
 // ---- arguments
 
 // Whether an argument fits a parameter of this kind.
-fn fits(kind: Kind, literal: &Literal) -> bool
+fn fits(kind: Kind, literal: &Literal<'_>) -> bool
     requires { is_literal literal.now ≡ true }
     ensures { result ≡ is_some (value_of kind literal.now) }
 {
@@ -42,7 +42,7 @@ fn fits(kind: Kind, literal: &Literal) -> bool
 }
 
 // Whether arguments fit as many parameters. Nothing is copied for that.
-fn all_fit(params: &[Kind], args: &[Literal]) -> bool
+fn all_fit(params: &[Kind], args: &[Literal<'_>]) -> bool
     requires { list_all is_literal args.now ≡ true }
     ensures { result ≡ is_some (values_of params.now args.now) }
 {
@@ -60,7 +60,7 @@ fn all_fit(params: &[Kind], args: &[Literal]) -> bool
 }
 
 // The value of an argument that fits a parameter of this kind.
-fn value_of(alloc: Global, kind: Kind, literal: &Literal) -> Result<Value, OutOfMemory>
+fn value_of(alloc: Global, kind: Kind, literal: &Literal<'_>) -> Result<Value, OutOfMemory>
     requires form { is_literal literal.now ≡ true }
     requires fits { is_some (value_of kind literal.now) ≡ true }
     ensures { IfOk result (λ v. value_of kind literal.now ≡ Some v) }
@@ -78,7 +78,11 @@ fn value_of(alloc: Global, kind: Kind, literal: &Literal) -> Result<Value, OutOf
 }
 
 // The values of arguments that fit as many parameters.
-fn values_of(alloc: Global, params: &[Kind], args: &[Literal]) -> Result<Seq<Value>, OutOfMemory>
+fn values_of(
+    alloc: Global,
+    params: &[Kind],
+    args: &[Literal<'_>],
+) -> Result<Seq<Value>, OutOfMemory>
     requires form { list_all is_literal args.now ≡ true }
     requires fit { is_some (values_of params.now args.now) ≡ true }
     ensures { IfOk result (λ vs. values_of params.now args.now ≡ Some vs) }
@@ -96,7 +100,12 @@ fn values_of(alloc: Global, params: &[Kind], args: &[Literal]) -> Result<Seq<Val
 }
 
 // The call of an event with these parameters.
-fn call_of(alloc: Global, event: u16, params: &[Kind], args: &[Literal]) -> Result<Line, Refusal>
+fn call_of(
+    alloc: Global,
+    event: u16,
+    params: &[Kind],
+    args: &[Literal<'_>],
+) -> Result<Line, Refusal>
     requires { list_all is_literal args.now ≡ true }
     ensures { Gives result (call_of event params.now args.now) }
 {
@@ -119,7 +128,7 @@ fn requested_call(
     alloc: Global,
     shape: &NamedShape<'_>,
     name: &[u8],
-    args: &[Literal],
+    args: &[Literal<'_>],
 ) -> Result<Line, Refusal>
     requires shape { IsShape shape.now }
     requires form { list_all is_literal args.now ≡ true }
@@ -187,7 +196,7 @@ fn judged_form(
     alloc: Global,
     shape: &NamedShape<'_>,
     before: &Progress,
-    form: &Form,
+    form: &Form<'_>,
 ) -> Result<Taken, Refusal>
     requires shape { IsShape shape.now }
     requires form { is_form form.now ≡ true }
@@ -214,7 +223,7 @@ pub(crate) fn judgment(
     alloc: Global,
     shape: &NamedShape<'_>,
     before: &Progress,
-    said: &Said,
+    said: &Said<'_>,
 ) -> Result<Taken, Refusal>
     requires shape { IsShape shape.now }
     requires form { IsWellFormed said.now }

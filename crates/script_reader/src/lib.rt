@@ -1,6 +1,7 @@
 //! The text of a script: its lines, their forms, and the first line that is refused.
 #![tactic(auto)]
 
+mod bytes;
 mod earlier;
 mod elastic;
 mod elastic_progress;
@@ -25,6 +26,7 @@ mod taken;
 mod told;
 mod worded;
 
+pub use bytes::Bytes;
 pub use earlier::Earlier;
 pub use elastic::{Elastic, Part};
 pub use elastics::read_elastic;

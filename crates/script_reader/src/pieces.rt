@@ -6,6 +6,7 @@ ghost use Rattle.wave_text.specs.Words.{is_blank};
 ghost use Rattle.script_reader.specs.Pieces.{is_sign, is_solid, begins_sign, IsOnlyFront, HasNoFront, without_blanks, AreOnlyPieces, HasNoPieces};
 ghost use Rattle.script_reader.specs.inner.Begins.{first_run};
 
+use crate::bytes::Bytes;
 use crate::piece::Piece;
 use crate::quote::Quote;
 use std::alloc::Global;
@@ -57,22 +58,22 @@ pub(crate) fn first_run(line: &[u8]) -> &[u8]
 }
 
 // The run at the front of a text.
-fn run_piece(alloc: Global, text: &[u8]) -> Result<Option<(Piece, &[u8])>, OutOfMemory>
+fn run_piece(text: &[u8]) -> Option<(Piece<'_>, &[u8])>
     requires { begins_sign text.now ≡ false }
-    ensures some { IfOk result (λ o. IfSome o (λ x. IsOnlyFront text.now x.0 x.1.now)) }
-    ensures shorter { IfOk result (λ o. IfSome o (λ x. length x.1.now < length text.now)) }
-    ensures none { IfOk result (λ o. IfNone o (HasNoFront text.now)) }
+    ensures some { IfSome result (λ x. IsOnlyFront text.now x.0 x.1.now) }
+    ensures shorter { IfSome result (λ x. length x.1.now < length text.now) }
+    ensures none { IfNone result (HasNoFront text.now) }
 {
     let len = run_len(text);
     if len == 0 {
-        return Ok(None);
+        return None;
     }
-    let bytes = Seq::from_slice(alloc, &text[..len])?;
-    Ok(Some((Piece::Run(bytes), &text[len..])))
+    let bytes = Bytes::of(&text[..len]);
+    Some((Piece::Run(bytes), &text[len..]))
 }
 
 // The text in quotes at the front of a text; its opening quote is left out.
-fn text_piece(alloc: Global, rest: &[u8]) -> Result<Option<(Piece, &[u8])>, OutOfMemory>
+fn text_piece(alloc: Global, rest: &[u8]) -> Result<Option<(Piece<'_>, &[u8])>, OutOfMemory>
     ensures some { IfOk result (λ o. IfSome o (λ x. IsOnlyFront (34 ∷ rest.now) x.0 x.1.now)) }
     ensures shorter { IfOk result (λ o. IfSome o (λ x. length x.1.now ≤ length rest.now)) }
     ensures none { IfOk result (λ o. IfNone o (HasNoFront (34 ∷ rest.now))) }
@@ -84,7 +85,7 @@ fn text_piece(alloc: Global, rest: &[u8]) -> Result<Option<(Piece, &[u8])>, OutO
 }
 
 /// The piece at the front of a text, and what stands behind it.
-fn first_piece(alloc: Global, text: &[u8]) -> Result<Option<(Piece, &[u8])>, OutOfMemory>
+fn first_piece(alloc: Global, text: &[u8]) -> Result<Option<(Piece<'_>, &[u8])>, OutOfMemory>
     ensures some { IfOk result (λ o. IfSome o (λ x. IsOnlyFront text.now x.0 x.1.now)) }
     ensures shorter { IfOk result (λ o. IfSome o (λ x. length x.1.now < length text.now)) }
     ensures none { IfOk result (λ o. IfNone o (HasNoFront text.now)) }
@@ -94,16 +95,16 @@ fn first_piece(alloc: Global, text: &[u8]) -> Result<Option<(Piece, &[u8])>, Out
         [b'(', rest @ ..] => Ok(Some((Piece::Open, rest))),
         [b')', rest @ ..] => Ok(Some((Piece::Close, rest))),
         [b',', rest @ ..] => Ok(Some((Piece::Comma, rest))),
-        _ => run_piece(alloc, text),
+        _ => Ok(run_piece(text)),
     }
 }
 
 /// The pieces of a line; none where it cannot be cut.
-pub(crate) fn pieces_of(alloc: Global, line: &[u8]) -> Result<Option<Seq<Piece>>, OutOfMemory>
+pub(crate) fn pieces_of(alloc: Global, line: &[u8]) -> Result<Option<Seq<Piece<'_>>>, OutOfMemory>
     ensures some { IfOk result (λ o. IfSome o (AreOnlyPieces line.now)) }
     ensures none { IfOk result (λ o. IfNone o (HasNoPieces line.now)) }
 {
-    let mut pieces = Vec::new(alloc);
+    let mut pieces = Vec::with_capacity(alloc, 12)?;
     let mut rest = without_blanks(line);
     while !rest.is_empty() {
         let Some((piece, after)) = first_piece(alloc, rest)? else {

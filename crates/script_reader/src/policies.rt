@@ -98,7 +98,7 @@ pub(crate) fn judged_worded(
     alloc: Global,
     shape: &NamedShape<'_>,
     before: &ElasticProgress,
-    worded: &Worded,
+    worded: &Worded<'_>,
 ) -> Result<Told, Refusal>
     requires shape { IsShape shape.now }
     requires form { IsWellWorded worded.now }

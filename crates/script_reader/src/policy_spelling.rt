@@ -18,7 +18,7 @@ pub(crate) fn is_policy_word(word: &[u8]) -> bool
 }
 
 // The digits behind the word `by`.
-fn count_behind(rest: &[Piece]) -> Option<&[u8]>
+fn count_behind<'t>(rest: &[Piece<'t>]) -> Option<&'t [u8]>
     ensures some { IfSome result (λ digits. IsBy rest.now digits.now) }
     ensures none { IfNone result (IsNotBy rest.now) }
 {
@@ -34,7 +34,7 @@ fn count_behind(rest: &[Piece]) -> Option<&[u8]>
     }
 }
 
-fn balance_form(alloc: Global, rest: &[Piece]) -> Result<Option<PolicyForm>, OutOfMemory>
+fn balance_form(alloc: Global, rest: &[Piece<'_>]) -> Result<Option<PolicyForm>, OutOfMemory>
     ensures some { IfOk result (λ o. IfSome o (IsOnlyPolicyOf (codes "balance") rest.now)) }
     ensures none { IfOk result (λ o. IfNone o (HasNoPolicyOf (codes "balance") rest.now)) }
 {
@@ -45,7 +45,7 @@ fn balance_form(alloc: Global, rest: &[Piece]) -> Result<Option<PolicyForm>, Out
 }
 
 // Digits, the word `to`, and digits.
-fn two_hosts(rest: &[Piece]) -> Option<(&[u8], &[u8])>
+fn two_hosts<'t>(rest: &[Piece<'t>]) -> Option<(&'t [u8], &'t [u8])>
     ensures some { IfSome result (λ x. AreTwoHosts rest.now x.0.now x.1.now) }
     ensures none { IfNone result (AreNoTwoHosts rest.now) }
 {
@@ -59,7 +59,7 @@ fn two_hosts(rest: &[Piece]) -> Option<(&[u8], &[u8])>
     }
 }
 
-fn drain_form(alloc: Global, rest: &[Piece]) -> Result<Option<PolicyForm>, OutOfMemory>
+fn drain_form(alloc: Global, rest: &[Piece<'_>]) -> Result<Option<PolicyForm>, OutOfMemory>
     ensures some { IfOk result (λ o. IfSome o (IsOnlyPolicyOf (codes "drain") rest.now)) }
     ensures none { IfOk result (λ o. IfNone o (HasNoPolicyOf (codes "drain") rest.now)) }
 {
@@ -75,7 +75,7 @@ fn drain_form(alloc: Global, rest: &[Piece]) -> Result<Option<PolicyForm>, OutOf
 fn policy_of_word(
     alloc: Global,
     word: &[u8],
-    rest: &[Piece],
+    rest: &[Piece<'_>],
 ) -> Result<Option<PolicyForm>, OutOfMemory>
     ensures some { IfOk result (λ o. IfSome o (IsOnlyPolicyOf word.now rest.now)) }
     ensures none { IfOk result (λ o. IfNone o (HasNoPolicyOf word.now rest.now)) }
@@ -92,7 +92,7 @@ fn policy_of_word(
 /// The form of a policy line with these pieces.
 pub(crate) fn policy_form_of(
     alloc: Global,
-    pieces: &[Piece],
+    pieces: &[Piece<'_>],
 ) -> Result<Option<PolicyForm>, OutOfMemory>
     ensures some { IfOk result (λ o. IfSome o (SpellsOnlyPolicy pieces.now)) }
     ensures none { IfOk result (λ o. IfNone o (SpellsNoPolicy pieces.now)) }

@@ -13,13 +13,13 @@ use wave_base::OutOfMemory;
 
 /// What a script line says.
 #[derive(Debug, Drop)]
-pub enum Said {
+pub enum Said<'t> {
     /// It is blank or a comment.
     Nothing,
     /// It has none of the forms.
     Unknown,
     /// It has this form.
-    Says(Form),
+    Says(Form<'t>),
 }
 
 fn is_skipped(line: &[u8]) -> bool
@@ -43,7 +43,7 @@ fn is_form_word(word: &[u8]) -> bool
 }
 
 /// What a line says. A line that begins with another word is told without memory.
-pub(crate) fn said_by(alloc: Global, line: &[u8]) -> Result<Said, OutOfMemory>
+pub(crate) fn said_by(alloc: Global, line: &[u8]) -> Result<Said<'_>, OutOfMemory>
     ensures { IfOk result (IsOnlySaid line.now) }
 {
     if is_skipped(line) {

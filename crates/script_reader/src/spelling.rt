@@ -1,11 +1,11 @@
 //! The form that a line's pieces spell.
 
 ghost use Rattle.std.specs.Prelude.{◌≡◌, ◌∷◌, ◌↔◌, [], List, ℕ, true, IsTrue, IsFalse, codes, IfOk, IfSome, IfNone};
-ghost use Rattle.script_reader.specs.inner.Behind.{behind_of};
 ghost use Rattle.script_reader.specs.Forms.{IsOnlyFormOf, HasNoFormOf};
-ghost use Rattle.script_reader.specs.inner.Parts.{is_literal_run, spells_literal, IsLiteralPiece, SpellLiterals, AreOnlyLiterals, AreNoLiterals, IsNumber, IsNoNumber, IsNamed, IsNotNamed, IsTo, IsNotTo, IsMove, IsNoMove, SpellsOnly, SpellsNone, behind_in};
+ghost use Rattle.script_reader.specs.inner.Parts.{is_literal_run, spells_literal, IsLiteralPiece, SpellLiterals, AreOnlyLiterals, AreNoLiterals, IsNumber, IsNoNumber, IsNamed, IsNotNamed, IsTo, IsNotTo, IsMove, IsNoMove, SpellsOnly, SpellsNone};
 ghost use Rattle.script_reader.specs.declared.piece.Piece.TheVariants.{Run, Close};
 
+use crate::bytes::Bytes;
 use crate::form::{Form, Literal};
 use crate::piece::Piece;
 use path_text::written_steps;
@@ -14,7 +14,7 @@ use wave_base::{OutOfMemory, Seq};
 use wave_text::{is_digits, is_whole, is_word};
 
 /// The bytes of a run.
-pub(crate) fn run_in(piece: &Piece) -> Option<&[u8]>
+pub(crate) fn run_in<'t>(piece: &Piece<'t>) -> Option<&'t [u8]>
     ensures some { IfSome result (λ bytes. piece.now ≡ Run bytes.now) }
     ensures none { IfNone result ((bytes : List ℕ) → piece.now ≡ Run bytes → ⊥) }
 {
@@ -27,7 +27,7 @@ pub(crate) fn run_in(piece: &Piece) -> Option<&[u8]>
 // ---- literals
 
 // Whether a piece spells a literal.
-fn spells_literal(piece: &Piece) -> bool
+fn spells_literal(piece: &Piece<'_>) -> bool
     ensures { result ≡ spells_literal piece.now }
 {
     match piece {
@@ -44,56 +44,39 @@ fn is_literal_run(bytes: &[u8]) -> bool
 }
 
 // The literal that a run spells.
-fn run_literal(alloc: Global, bytes: &[u8]) -> Result<Literal, OutOfMemory>
+fn run_literal(bytes: &[u8]) -> Literal<'_>
     requires { is_literal_run bytes.now ≡ true }
-    ensures { IfOk result (IsLiteralPiece (Run bytes.now)) }
+    ensures { IsLiteralPiece (Run bytes.now) result }
 {
     if bytes == b"true".as_slice() {
-        return Ok(Literal::Truth(true));
+        return Literal::Truth(true);
     }
     if bytes == b"false".as_slice() {
-        return Ok(Literal::Truth(false));
+        return Literal::Truth(false);
     }
-    Ok(Literal::Number(Seq::from_slice(alloc, bytes)?))
+    Literal::Number(Bytes::of(bytes))
 }
 
 // The literal that a piece spells.
-fn literal_of(alloc: Global, piece: &Piece) -> Result<Literal, OutOfMemory>
+fn literal_of<'t>(alloc: Global, piece: &Piece<'t>) -> Result<Literal<'t>, OutOfMemory>
     requires { spells_literal piece.now ≡ true }
     ensures { IfOk result (IsLiteralPiece piece.now) }
 {
     match piece {
-        Piece::Run(bytes) => run_literal(alloc, bytes.as_slice()),
+        Piece::Run(bytes) => Ok(run_literal(bytes.as_slice())),
         Piece::Text(text) => Ok(Literal::Text(text.copy(alloc)?)),
         Piece::Open | Piece::Close | Piece::Comma => unreachable!(),
     }
 }
 
-// What stands behind a literal.
-enum Behind<'a> {
-    More(&'a [Piece]),
-    End,
-    Wrong,
-}
-
-fn behind_literal(pieces: &[Piece]) -> Behind<'_>
-    ensures { behind_of result ≡ behind_in pieces.now }
-{
-    match pieces {
-        [Piece::Comma, rest @ ..] => Behind::More(rest),
-        [Piece::Close] => Behind::End,
-        _ => Behind::Wrong,
-    }
-}
-
-fn is_close(pieces: &[Piece]) -> bool
+fn is_close(pieces: &[Piece<'_>]) -> bool
     ensures { IsTrue result ↔ (pieces.now ≡ Close ∷ []) }
 {
     matches!(pieces, [Piece::Close])
 }
 
 // Whether these pieces spell literals behind an opening parenthesis. Nothing is copied for that.
-fn are_literals(pieces: &[Piece]) -> bool
+fn are_literals(pieces: &[Piece<'_>]) -> bool
     ensures some { IsTrue result → SpellLiterals pieces.now }
     ensures none { IsFalse result → AreNoLiterals pieces.now }
 {
@@ -108,16 +91,16 @@ fn are_literals(pieces: &[Piece]) -> bool
         if !spells_literal(piece) {
             return false;
         }
-        match behind_literal(after) {
-            Behind::More(more) => rest = more,
-            Behind::End => return true,
-            Behind::Wrong => return false,
+        match after {
+            [Piece::Comma, more @ ..] => rest = more,
+            [Piece::Close] => return true,
+            _ => return false,
         }
     }
 }
 
 // These literals: behind each of them stands a sign.
-fn literals_of(alloc: Global, pieces: &[Piece]) -> Result<Seq<Literal>, OutOfMemory>
+fn literals_of<'t>(alloc: Global, pieces: &[Piece<'t>]) -> Result<Seq<Literal<'t>>, OutOfMemory>
     requires { SpellLiterals pieces.now }
     ensures { IfOk result (AreOnlyLiterals pieces.now) }
 {
@@ -133,7 +116,7 @@ fn literals_of(alloc: Global, pieces: &[Piece]) -> Result<Seq<Literal>, OutOfMem
 // ---- lines
 
 /// The digits of a number that stands alone.
-pub(crate) fn number_alone(rest: &[Piece]) -> Option<&[u8]>
+pub(crate) fn number_alone<'t>(rest: &[Piece<'t>]) -> Option<&'t [u8]>
     ensures some { IfSome result (λ n. IsNumber rest.now n.now) }
     ensures none { IfNone result (IsNoNumber rest.now) }
 {
@@ -144,18 +127,18 @@ pub(crate) fn number_alone(rest: &[Piece]) -> Option<&[u8]>
     if is_digits(bytes) { Some(bytes) } else { None }
 }
 
-fn hosts_form(alloc: Global, rest: &[Piece]) -> Result<Option<Form>, OutOfMemory>
-    ensures some { IfOk result (λ o. IfSome o (IsOnlyFormOf (codes "hosts") rest.now)) }
-    ensures none { IfOk result (λ o. IfNone o (HasNoFormOf (codes "hosts") rest.now)) }
+fn hosts_form<'t>(rest: &[Piece<'t>]) -> Option<Form<'t>>
+    ensures some { IfSome result (IsOnlyFormOf (codes "hosts") rest.now) }
+    ensures none { IfNone result (HasNoFormOf (codes "hosts") rest.now) }
 {
     match number_alone(rest) {
-        Some(digits) => Ok(Some(Form::Hosts(Seq::from_slice(alloc, digits)?))),
-        None => Ok(None),
+        Some(digits) => Some(Form::Hosts(Bytes::of(digits))),
+        None => None,
     }
 }
 
 // A name and an opening parenthesis, and what stands behind them.
-fn name_before(rest: &[Piece]) -> Option<(&[u8], &[Piece])>
+fn name_before<'a, 't>(rest: &'a [Piece<'t>]) -> Option<(&'t [u8], &'a [Piece<'t>])>
     ensures some { IfSome result (λ x. IsNamed rest.now x.0.now x.1.now) }
     ensures none { IfNone result (IsNotNamed rest.now) }
 {
@@ -170,7 +153,7 @@ fn name_before(rest: &[Piece]) -> Option<(&[u8], &[Piece])>
     }
 }
 
-fn request_form(alloc: Global, rest: &[Piece]) -> Result<Option<Form>, OutOfMemory>
+fn request_form<'t>(alloc: Global, rest: &[Piece<'t>]) -> Result<Option<Form<'t>>, OutOfMemory>
     ensures some { IfOk result (λ o. IfSome o (IsOnlyFormOf (codes "request") rest.now)) }
     ensures none { IfOk result (λ o. IfNone o (HasNoFormOf (codes "request") rest.now)) }
 {
@@ -181,11 +164,11 @@ fn request_form(alloc: Global, rest: &[Piece]) -> Result<Option<Form>, OutOfMemo
         return Ok(None);
     }
     let args = literals_of(alloc, args)?;
-    Ok(Some(Form::Request(Seq::from_slice(alloc, name)?, args)))
+    Ok(Some(Form::Request(Bytes::of(name), args)))
 }
 
 // The digits behind the word `to`.
-fn host_behind(rest: &[Piece]) -> Option<&[u8]>
+fn host_behind<'t>(rest: &[Piece<'t>]) -> Option<&'t [u8]>
     ensures some { IfSome result (λ digits. IsTo rest.now digits.now) }
     ensures none { IfNone result (IsNotTo rest.now) }
 {
@@ -202,7 +185,7 @@ fn host_behind(rest: &[Piece]) -> Option<&[u8]>
 }
 
 /// A run, the word `to`, and digits.
-pub(crate) fn path_and_host(rest: &[Piece]) -> Option<(&[u8], &[u8])>
+pub(crate) fn path_and_host<'t>(rest: &[Piece<'t>]) -> Option<(&'t [u8], &'t [u8])>
     ensures some { IfSome result (λ x. IsMove rest.now x.0.now x.1.now) }
     ensures none { IfNone result (IsNoMove rest.now) }
 {
@@ -214,7 +197,7 @@ pub(crate) fn path_and_host(rest: &[Piece]) -> Option<(&[u8], &[u8])>
     Some((path, digits))
 }
 
-fn move_form(alloc: Global, rest: &[Piece]) -> Result<Option<Form>, OutOfMemory>
+fn move_form<'t>(alloc: Global, rest: &[Piece<'t>]) -> Result<Option<Form<'t>>, OutOfMemory>
     ensures some { IfOk result (λ o. IfSome o (IsOnlyFormOf (codes "move") rest.now)) }
     ensures none { IfOk result (λ o. IfNone o (HasNoFormOf (codes "move") rest.now)) }
 {
@@ -224,10 +207,10 @@ fn move_form(alloc: Global, rest: &[Piece]) -> Result<Option<Form>, OutOfMemory>
     let Some(steps) = written_steps(alloc, path)? else {
         return Ok(None);
     };
-    Ok(Some(Form::Move(steps, Seq::from_slice(alloc, digits)?)))
+    Ok(Some(Form::Move(steps, Bytes::of(digits))))
 }
 
-fn snapshot_form(rest: &[Piece]) -> Option<Form>
+fn snapshot_form<'t>(rest: &[Piece<'t>]) -> Option<Form<'t>>
     ensures some { IfSome result (IsOnlyFormOf (codes "snapshot") rest.now) }
     ensures none { IfNone result (HasNoFormOf (codes "snapshot") rest.now) }
 {
@@ -238,7 +221,7 @@ fn snapshot_form(rest: &[Piece]) -> Option<Form>
     }
 }
 
-fn settle_form(rest: &[Piece]) -> Option<Form>
+fn settle_form<'t>(rest: &[Piece<'t>]) -> Option<Form<'t>>
     ensures some { IfSome result (IsOnlyFormOf (codes "settle") rest.now) }
     ensures none { IfNone result (HasNoFormOf (codes "settle") rest.now) }
 {
@@ -250,12 +233,16 @@ fn settle_form(rest: &[Piece]) -> Option<Form>
 }
 
 // The form of a line with this first word.
-fn form_of_word(alloc: Global, word: &[u8], rest: &[Piece]) -> Result<Option<Form>, OutOfMemory>
+fn form_of_word<'t>(
+    alloc: Global,
+    word: &[u8],
+    rest: &[Piece<'t>],
+) -> Result<Option<Form<'t>>, OutOfMemory>
     ensures some { IfOk result (λ o. IfSome o (IsOnlyFormOf word.now rest.now)) }
     ensures none { IfOk result (λ o. IfNone o (HasNoFormOf word.now rest.now)) }
 {
     if word == b"hosts".as_slice() {
-        return hosts_form(alloc, rest);
+        return Ok(hosts_form(rest));
     }
     if word == b"request".as_slice() {
         return request_form(alloc, rest);
@@ -273,7 +260,10 @@ fn form_of_word(alloc: Global, word: &[u8], rest: &[Piece]) -> Result<Option<For
 }
 
 /// The form of a line with these pieces.
-pub(crate) fn form_of(alloc: Global, pieces: &[Piece]) -> Result<Option<Form>, OutOfMemory>
+pub(crate) fn form_of<'t>(
+    alloc: Global,
+    pieces: &[Piece<'t>],
+) -> Result<Option<Form<'t>>, OutOfMemory>
     ensures some { IfOk result (λ o. IfSome o (SpellsOnly pieces.now)) }
     ensures none { IfOk result (λ o. IfNone o (SpellsNone pieces.now)) }
 {

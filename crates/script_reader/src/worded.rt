@@ -12,15 +12,15 @@ use wave_base::OutOfMemory;
 
 /// What a line of a script with policies says.
 #[derive(Debug, Drop)]
-pub enum Worded {
+pub enum Worded<'t> {
     /// What it would say in a script without policies.
-    Plain(Said),
+    Plain(Said<'t>),
     /// It has this form of a policy.
     Policy(PolicyForm),
 }
 
 /// What a line says. A line that begins with another word than a policy is read once.
-pub(crate) fn worded_by(alloc: Global, line: &[u8]) -> Result<Worded, OutOfMemory>
+pub(crate) fn worded_by(alloc: Global, line: &[u8]) -> Result<Worded<'_>, OutOfMemory>
     ensures { IfOk result (IsOnlyWorded line.now) }
 {
     if !is_policy_word(first_run(line)) {

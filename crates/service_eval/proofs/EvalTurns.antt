@@ -45,11 +45,6 @@ module _ (code : Code) (contexts : Contexts) (m m' : Machine) (r : Result (Unit 
         turned code contexts (Eval (Op at row ts)) (λ m. on_top (Evals ts) (on_top (Apply at row (length m.values)) m)) m m' r next (e.op_parts code.methods.now (mach code contexts m) at row ts)
         (ready_with _ _ _ _ _ next (next.items.0, (tt, next.items.1))) (here (λ n m. on_top (Evals ts) (on_top (Apply at row n) m)) ok) err (op_lighter code.methods.now (mach code contexts m) at row ts (length m.values.items))
 
-    pub call_turn : Puts (λ m. on_top (Evals ts) (on_top (Invoke at row n) m)) → Memory → IsNext code contexts m (Eval (Call at row ts)) → Goes code contexts m (Eval (Call at row ts)) r contexts m'
-    call_turn ok err next =
-        turned code contexts (Eval (Call at row ts)) (λ m. on_top (Evals ts) (on_top (Invoke at row (length m.values)) m)) m m' r next (e.call_parts code.methods.now (mach code contexts m) at row ts)
-        (ready_with _ _ _ _ _ next (next.items.0.1, ((_, next.items.0.0), next.items.1))) (here (λ n m. on_top (Evals ts) (on_top (Invoke at row n) m)) ok) err (call_lighter code.methods.now (mach code contexts m) at row ts (length m.values.items))
-
   pub child_turn : (at : Span) (class method : ℕ) (key : Expression) (ts : Trees) → Puts (λ m. on_top (Eval key) (on_top (Evals ts) (on_top (Child at class method n) m))) → Memory → IsNext code contexts m (Eval (ChildOf at class method key ts)) → Goes code contexts m (Eval (ChildOf at class method key ts)) r contexts m'
   child_turn at class method key ts ok err next =
       turned code contexts (Eval (ChildOf at class method key ts)) (λ m. on_top (Eval key) (on_top (Evals ts) (on_top (Child at class method (length m.values)) m))) m m' r next (e.child_parts code.methods.now (mach code contexts m) at class method key ts)

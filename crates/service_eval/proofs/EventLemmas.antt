@@ -15,6 +15,7 @@ use Rattle.service_eval.specs.declared.stop.Stop.TheVariants as stop
 use Rattle.service_eval.specs.inner.Parts.{Rests, Comes}
 use Rattle.service_eval.specs.inner.Items.{Eval, Block}
 use Rattle.service_eval.specs.inner.Machines.{Mach, Rest, rest_at, state_of, on_top, come_of, comes_to}
+use Rattle.service_eval.specs.inner.Ready.{Turned}
 use Rattle.service_eval.specs.inner.Turns.{mach, Ran}
 use Rattle.service_eval.specs.Worlds.{Holds}
 use Rattle.service_eval.specs.inner.Traces.{uncounted_world, uncounted_outcome, Fails}
@@ -45,44 +46,49 @@ failed p view (Left l s) (stop.Ended r) w h =
     let b : blank s ≡ h.state = cc in
     record { why = h.why; state = h.state; is = λ i. Left (a i) (b i); replies = h.replies; leaves = h.leaves }
 
-module _ (code : Code) (contexts contexts' : Contexts) (m m1 m2 : Machine) (rests : Rests code contexts m) where
+module _ (code : Code) (contexts contexts' : Contexts) (m : Machine) (begun : Mach) (m2 : Machine) (rests : Rests code contexts m) where
   abbrev st : State
   st = state_of (shown code.shape.now contexts) m
 
   abbrev ends : State
   ends = state_of (shown code.shape.now contexts') m2
 
-  module _ (ss : Steps) (top : mach code contexts m1 ≡ on_top (Block ss) (mach code contexts m)) where
+  module _ (ss : Steps) (top : begun ≡ on_top (Block ss) (mach code contexts m)) where
     abbrev body : Outcome (Unit {0})
     body = effects (call_act code.methods.now TICKS) TICKS m.path ss (state_of (shown code.shape.now contexts) m)
 
-    body_is : comes_to code.methods.now (mach code contexts m1) ≡ uncounted_outcome (at_end m.path (λ _. []) body)
+    body_is : comes_to code.methods.now begun ≡ uncounted_outcome (at_end m.path (λ _. []) body)
     body_is = ap (comes_to code.methods.now) top ∙ (λ i. come_of code.methods.now (rests.items i) m.path (and_then body (λ _. give (rests.values i))))
 
-    pub part_comes : (r : Result (Unit {0}) Stop) → Ran code (mach code contexts m1) r (mach code contexts' m2) → Comes body r ends
+    pub part_comes : (r : Result (Unit {0}) Stop) → Ran code begun r (mach code contexts' m2) → Comes body r ends
     part_comes (Ok u) h = (ended m.path (λ _. []) body _ ends (sym body_is ∙ h.0)).1
     part_comes (Err e) h = failed m.path (λ _. []) body e ends.world (subst (λ o. Fails o e ends.world) body_is h.0)
 
-    pub part_rests : (r : Result (Unit {0}) Stop) → Ran code (mach code contexts m1) r (mach code contexts' m2) → OnOk r (Rests code contexts' m2)
+    pub part_rests : (r : Result (Unit {0}) Stop) → Ran code begun r (mach code contexts' m2) → OnOk r (Rests code contexts' m2)
     part_rests (Ok u) h = record { ready = h.2; items = h.1; values = sym (ap (λ (r : Rest). r.values) (ended m.path (λ _. []) body _ ends (sym body_is ∙ h.0)).2) }
     part_rests (Err e) h = tt
 
-    pub part_place : (r : Result (Unit {0}) Stop) → Ran code (mach code contexts m1) r (mach code contexts' m2) → OnOk r (m2.path ≡ m.path)
+    pub part_place : (r : Result (Unit {0}) Stop) → Ran code begun r (mach code contexts' m2) → OnOk r (m2.path ≡ m.path)
     part_place (Ok u) h = sym (ap (λ (r : Rest). r.path) (ended m.path (λ _. []) body _ ends (sym body_is ∙ h.0)).2)
     part_place (Err e) h = tt
 
-  module _ (t : Tree) (top : mach code contexts m1 ≡ on_top (Eval t) (mach code contexts m)) where
+  module _ (t : Tree) (top : begun ≡ on_top (Eval t) (mach code contexts m)) where
     abbrev worth : Outcome Value
     worth = value (call_act code.methods.now TICKS) m.path t (state_of (shown code.shape.now contexts) m)
 
-    value_is : comes_to code.methods.now (mach code contexts m1) ≡ uncounted_outcome (at_end m.path (λ v. v ∷ []) worth)
+    value_is : comes_to code.methods.now begun ≡ uncounted_outcome (at_end m.path (λ v. v ∷ []) worth)
     value_is = ap (comes_to code.methods.now) top ∙ (λ i. come_of code.methods.now (rests.items i) m.path (and_then worth (λ v. give (rests.values i ++ v ∷ []))))
 
-    pub value_comes : Ran code (mach code contexts m1) (Ok tt) (mach code contexts' m2) → (v : Value) × (uncounted_outcome worth ≡ uncounted_outcome (Done v ends)) × (rest_at m.path (v ∷ []) ≡ rest_at m2.path m2.values.items)
+    pub value_comes : Ran code begun (Ok tt) (mach code contexts' m2) → (v : Value) × (uncounted_outcome worth ≡ uncounted_outcome (Done v ends)) × (rest_at m.path (v ∷ []) ≡ rest_at m2.path m2.values.items)
     value_comes h = ended m.path (λ v. v ∷ []) worth _ ends (sym value_is ∙ h.0)
 
-    pub value_fails : (e : Stop) → Ran code (mach code contexts m1) (Err e) (mach code contexts' m2) → Fails (uncounted_outcome worth) e ends.world
+    pub value_fails : (e : Stop) → Ran code begun (Err e) (mach code contexts' m2) → Fails (uncounted_outcome worth) e ends.world
     value_fails e h = failed m.path (λ v. v ∷ []) worth e ends.world (subst (λ o. Fails o e ends.world) value_is h.0)
+
+-- what was done by one turn, and then by others
+pub ran_from : (code : Code) (before mid after : Mach) (r : Result (Unit {0}) Stop) → Turned code.shape.now code.methods.now before (Ok tt) mid → Ran code mid r after → Ran code before r after
+ran_from code before mid after (Ok u) t h = (t.0 ∙ h.0, h.1, h.2)
+ran_from code before mid after (Err e) t h = (subst (λ o. Fails o e after.state.world) (sym t.0) h.0, h.1)
 
 pub holds_after : (code : Code) (before after : Mach) (r : Result (Unit {0}) Stop) → Ran code before r after → Holds code.shape.now after.state.world.tree
 holds_after code before after (Ok u) h = h.2.holds

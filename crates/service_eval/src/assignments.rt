@@ -18,7 +18,7 @@ ghost use Rattle.wave_base.specs.declared.limits.TheConstants.{TICKS};
 use crate::changes::{change, set_variable};
 use crate::code::Code;
 use crate::edits::Edit;
-use crate::eval::found_value;
+use crate::eval::{eval, found_value};
 use crate::look::View;
 use crate::machine::Machine;
 use crate::plain::number;
@@ -236,8 +236,10 @@ pub fn begin_assignment<'s>(
     let base = m.height();
     match change {
         Assignment::Set(variable, e) => {
-            let last = Work::Finish(at, StatementEnd::Set(variable), base);
-            m.push_two(Work::Eval(e), last)
+            match m.push(Work::Finish(at, StatementEnd::Set(variable), base)) {
+                Ok(()) => eval(code, contexts, m, e),
+                Err(e) => Err(e),
+            }
         }
         Assignment::Put(variable, key, e) => {
             let last = Work::Finish(at, StatementEnd::Put(variable), base);

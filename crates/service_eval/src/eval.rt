@@ -64,10 +64,10 @@ pub fn eval<'s>(
         Node::Op(row, args) => operate(code, contexts, m, e.at, *row, args.as_slice()),
         Node::And(left, right) => m.push_two(Work::Eval(left), Work::AndThen(right, base)),
         Node::Or(left, right) => m.push_two(Work::Eval(left), Work::OrElse(right, base)),
-        Node::Call(method, args) => m.push_two(
-            Work::Evals(args.as_slice()),
-            Work::Invoke(e.at, *method, base),
-        ),
+        Node::Call(method, args) => match m.push(Work::Invoke(e.at, *method, base)) {
+            Ok(()) => evals(code, contexts, m, args.as_slice()),
+            Err(e) => Err(e),
+        },
         Node::Child(class, method, key, args) => {
             let callee = Callee {
                 class: *class,
@@ -172,7 +172,7 @@ fn operator_value(
     }
 }
 
-/// The first of some expressions, and then the others.
+/// Some expressions, one after the other: each at once, up to the first that meets a call.
 pub fn evals<'s>(
     code: Code<'s>,
     contexts: &Tree,
@@ -184,7 +184,14 @@ pub fn evals<'s>(
 {
     match first_of(es) {
         None => Ok(()),
-        Some((first, others)) => m.push_two(Work::Eval(first), Work::Evals(others)),
+        Some((first, others)) => match found_value(code, contexts, m, first) {
+            Ok(Some(value)) => match m.give(value) {
+                Ok(()) => evals(code, contexts, m, others),
+                Err(e) => Err(e),
+            },
+            Ok(None) => m.push_two(Work::Eval(first), Work::Evals(others)),
+            Err(e) => Err(e),
+        },
     }
 }
 

@@ -1,6 +1,6 @@
 //! Whole events.
 
-ghost use Rattle.std.specs.Prelude.{◌≡◌, ◌≤◌, [], slice_get, IsSome, IfOk, OnOk, OnErr, All};
+ghost use Rattle.std.specs.Prelude.{◌≡◌, ◌≤◌, [], slice_get, IsSome, IfOk, OnOk, OnErr, All, ◌∷◌};
 ghost use Rattle.context_tree.specs.Contexts.{tree_of as shown};
 ghost use Rattle.resolved_service.specs.Fits.{FitsMethod, FitsService, FitsEvent, FitsPhases, FitsLast, FitsSteps, FitsTree, IsChildClass};
 ghost use Rattle.resolved_service.specs.Jobs.{call_meaning, meant_by, first_world, outcome_of_reply};
@@ -16,8 +16,10 @@ ghost use Rattle.wave_base.specs.declared.limits.TheConstants.{GENERATION, TICKS
 ghost use Rattle.wave_base.specs.declared.outcome.Outcome.{Outcome};
 ghost use Rattle.wave_base.specs.Shapes.{IsShape, class_of};
 
+use crate::block::block;
 use crate::calls::{enter, with_blanks};
 use crate::code::Code;
+use crate::eval::found_value;
 use crate::machine::Machine;
 use crate::parts::first_of;
 use crate::run::run;
@@ -174,8 +176,8 @@ fn start<'s>(alloc: Global, event: &'s Event, call: &Call) -> Result<Machine<'s>
 {
     let given = call.args.copy(alloc)?.into_vec();
     let locals = with_blanks(alloc, given, event.locals.as_slice())?;
-    let entered = vec![in alloc; Path::root()]?;
-    let held = vec![in alloc; Path::root()]?;
+    let entered = root_alone(alloc)?;
+    let held = root_alone(alloc)?;
     let trace = Trace {
         generation: call.generation,
         ticks: TICKS,
@@ -192,6 +194,15 @@ fn start<'s>(alloc: Global, event: &'s Event, call: &Call) -> Result<Machine<'s>
         near: 0,
         trace,
     })
+}
+
+// The root alone, with room for some contexts below it.
+fn root_alone(alloc: Global) -> Result<Vec<Path>, OutOfMemory>
+    ensures { IfOk result (λ paths. paths.items ≡ [] ∷ []) }
+{
+    let mut paths = Vec::with_capacity(alloc, 4)?;
+    paths.push(Path::root())?;
+    Ok(paths)
 }
 
 // The root's statements, and then the phases and the reply.
@@ -268,14 +279,37 @@ fn part<'s>(
     ensures place { OnOk result (m.new.path ≡ m.old.path) }
     ensures holds { Holds code.entry.shape.now (shown code.entry.shape.now contexts.new) }
 {
-    match m.push(Work::Block(stmts)) {
+    match block(code, contexts, m, stmts) {
         Ok(()) => run(code, contexts, m),
         Err(e) => Err(e),
     }
 }
 
-// The value of an expression at the context where the event is.
+// The value of an expression at the context where the event is: at once, where no call is met.
 fn value_of<'s>(
+    code: Code<'s>,
+    contexts: &mut Tree,
+    m: &mut Machine<'s>,
+    e: &'s Expr,
+) -> Result<Value, Stop>
+    requires shape { IsShape code.shape.now }
+    requires methods { All (FitsMethod code.shape.now code.methods.now) code.methods.now }
+    requires fits { FitsTree code.shape.now code.methods.now (class_of m.old.path) (tree_of e.now) }
+    requires rests { Rests code contexts.old m.old }
+    ensures comes { Comes (value (call_act code.entry.methods.now TICKS) m.old.path (tree_of e.now) (state_of (shown code.entry.shape.now contexts.old) m.old)) result (state_of (shown code.entry.shape.now contexts.new) m.new) }
+    ensures rests { OnOk result (Rests code.entry contexts.new m.new) }
+    ensures place { OnOk result (m.new.path ≡ m.old.path) }
+    ensures holds { Holds code.entry.shape.now (shown code.entry.shape.now contexts.new) }
+{
+    match found_value(code, contexts, m, e) {
+        Ok(Some(value)) => Ok(value),
+        Ok(None) => value_by_parts(code, contexts, m, e),
+        Err(e) => Err(e),
+    }
+}
+
+// The same, part by part.
+fn value_by_parts<'s>(
     code: Code<'s>,
     contexts: &mut Tree,
     m: &mut Machine<'s>,

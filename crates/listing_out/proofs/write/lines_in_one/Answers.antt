@@ -6,10 +6,11 @@ use Rattle.listing_out.proofs.write.lines_in_one.Goals as goal
 pub loop-i-preserved : goal.loop-i-preserved
 loop-i-preserved c =
     let within : c.loop-i.i < length c.args.part.now = omega (arith, c.loop-i-test.true, ap length c.as_slice-shown-items.ensures) in
-    let lines : result_lines c.args.shape.now (c.args.from.0 + c.loop-i.i) c.shown-item.result.name c.shown-item.result.result c.shown-item.result.made ≡ c.as_slice.result.now =
-    cc (c.as_slice.ensures.value, c.in_ok-lines.ensures, c.ticket_at-n.ensures, c.as_slice-made.ensures) in
-    let there = c.shown-item.is ∙ ap (λ xs. get_or xs c.loop-i.i c.shown-item.result) c.as_slice-shown-items.ensures in
-    result_put _ _ _ _ _ _ c.in_ok-put_lines.ensures (next_ticket c.args.shape.now c.args.from.0 c.args.part.now c.loop-i.i c.shown-item.result c.as_slice.result.now within there lines) c.loop-i.invariant
+    let x = c.shown-item.result in
+    let there = c.shown-item.is ∙ ap (λ xs. get_or xs c.loop-i.i x) c.as_slice-shown-items.ensures in
+    let lines = result_lines c.args.shape.now c.ticket_at-n.result x.name x.result c.as_slice-made.result.now in
+    let same : result_lines c.args.shape.now (c.args.from.0 + c.loop-i.i) x.name x.result x.made ≡ lines = cc (c.ticket_at-n.ensures, c.as_slice-made.ensures) in
+    result_put _ _ _ _ _ _ c.in_ok-put_result.ensures (next_ticket c.args.shape.now c.args.from.0 c.args.part.now c.loop-i.i x lines within there same) c.loop-i.invariant
 
 pub returns : goal.returns
 returns c =

@@ -1,4 +1,4 @@
-use Rattle.std.proofs.Common.{◌≡◌, ◌+◌, ◌<◌, length, get_or, ap, ◌∙◌, arith}
+use Rattle.std.proofs.Common.{◌≡◌, ◌+◌, ◌<◌, ◌++◌, length, drop, get_or, ap, sym, ◌∙◌, arith}
 use Rattle.std.specs.List.{concat}
 use Rattle.listing_out.specs.Listing.{name_at, made_at, result_lines, lines_from, shown_of}
 use Rattle.listing_out.proofs.ListingLemmas.{next_result, no_result}
@@ -16,30 +16,32 @@ loop-i-init g c =
       later = omega arith;
     }
 
-pub returns-in_err-lines-clause-err : goal.returns-in_err-lines-clause-err
-returns-in_err-lines-clause-err g c = on_err c.from_residual-in_err-lines.result (taken_reached _ _ _ _ _ c.loop-i.invariant.taken)
+pub returns-in_err-put_result-clause-err : goal.returns-in_err-put_result-clause-err
+returns-in_err-put_result-clause-err g c = on_err c.from_residual-in_err-put_result.result (taken_reached _ _ _ _ _ c.loop-i.invariant.taken)
 
-pub returns-in_err-hold_each-clause-err : goal.returns-in_err-hold_each-clause-err
-returns-in_err-hold_each-clause-err g c =
+pub returns-in_err-write_all-clause-err : goal.returns-in_err-write_all-clause-err
+returns-in_err-write_all-clause-err g c =
     let within : c.loop-i.i < length c.args.done.now.results = omega (arith, c.loop-i-test.true, ap length c.as_slice-result_-items.ensures) in
-    let lines : result_lines c.args.shape.now (c.args.first.0 + c.loop-i.i) (name_at c.args.done.now c.loop-i.i) c.result_-item.result (made_at c.args.done.now c.loop-i.i) ≡ c.as_slice.result.now =
-    cc (c.as_slice.ensures.value, c.in_ok-lines.ensures, c.ticket_at-n.ensures, c.name_at.ensures, c.made_at.ensures) in
     let there = c.result_-item.is ∙ ap (λ xs. get_or xs c.loop-i.i c.result_-item.result) c.as_slice-result_-items.ensures in
-    on_err c.from_residual-in_err-hold_each.result
+    let lines = result_lines c.args.shape.now c.ticket_at-n.result c.name_at.result c.result_-item.result c.made_at.result.now in
+    let same : result_lines c.args.shape.now (c.args.first.0 + c.loop-i.i) (name_at c.args.done.now c.loop-i.i) c.result_-item.result (made_at c.args.done.now c.loop-i.i) ≡ lines = cc (c.ticket_at-n.ensures, c.name_at.ensures, c.made_at.ensures) in
+    let text : c.as_slice.result.now ≡ concat lines = c.as_slice.ensures.value ∙ c.in_ok-put_result.ensures ∙ ap (λ z. z ++ concat lines) c.clear.ensures.items in
+    on_err c.from_residual-in_err-write_all.result
     (front_of_all _ _ _ _
-    (front_taken _ _ _ _ _ _ (concat c.as_slice.result.now) _ _ _ c.loop-i.invariant.taken c.in_err-hold_each.ensures.err
-    (next_result c.args.shape.now c.args.first.0 c.args.done.now c.loop-i.i c.result_-item.result c.as_slice.result.now within there lines)))
+    (front_taken _ _ _ _ _ _ c.as_slice.result.now _ _ _ c.loop-i.invariant.taken c.in_err-write_all.ensures.err
+    (next_result c.args.shape.now c.args.first.0 c.args.done.now c.loop-i.i c.result_-item.result lines within there same ∙ ap (λ z. z ++ concat (lines_from c.args.shape.now (c.args.first.0 + (c.loop-i.i + 1)) (drop (c.loop-i.i + 1) (shown_of c.args.done.now)))) (sym text))))
 
 pub loop-i-preserved : goal.loop-i-preserved
 loop-i-preserved g c =
     let within : c.loop-i.i < length c.args.done.now.results = omega (arith, c.loop-i-test.true, ap length c.as_slice-result_-items.ensures) in
-    let lines : result_lines c.args.shape.now (c.args.first.0 + c.loop-i.i) (name_at c.args.done.now c.loop-i.i) c.result_-item.result (made_at c.args.done.now c.loop-i.i) ≡ c.as_slice.result.now =
-    cc (c.as_slice.ensures.value, c.in_ok-lines.ensures, c.ticket_at-n.ensures, c.name_at.ensures, c.made_at.ensures) in
     let there = c.result_-item.is ∙ ap (λ xs. get_or xs c.loop-i.i c.result_-item.result) c.as_slice-result_-items.ensures in
+    let lines = result_lines c.args.shape.now c.ticket_at-n.result c.name_at.result c.result_-item.result c.made_at.result.now in
+    let same : result_lines c.args.shape.now (c.args.first.0 + c.loop-i.i) (name_at c.args.done.now c.loop-i.i) c.result_-item.result (made_at c.args.done.now c.loop-i.i) ≡ lines = cc (c.ticket_at-n.ensures, c.name_at.ensures, c.made_at.ensures) in
+    let text : c.as_slice.result.now ≡ concat lines = c.as_slice.ensures.value ∙ c.in_ok-put_result.ensures ∙ ap (λ z. z ++ concat lines) c.clear.ensures.items in
     record {
-      taken = more_taken _ _ _ _ _ _ (concat c.as_slice.result.now) _ _ _ c.loop-i.invariant.taken c.in_ok-hold_each.ensures.ok
-          (next_result c.args.shape.now c.args.first.0 c.args.done.now c.loop-i.i c.result_-item.result c.as_slice.result.now within there lines);
-      later = omega (arith, c.in_ok-hold_each.ensures.cause, c.loop-i.invariant.later);
+      taken = more_taken _ _ _ _ _ _ c.as_slice.result.now _ _ _ c.loop-i.invariant.taken c.in_ok-write_all.ensures.ok
+          (next_result c.args.shape.now c.args.first.0 c.args.done.now c.loop-i.i c.result_-item.result lines within there same ∙ ap (λ z. z ++ concat (lines_from c.args.shape.now (c.args.first.0 + (c.loop-i.i + 1)) (drop (c.loop-i.i + 1) (shown_of c.args.done.now)))) (sym text));
+      later = omega (arith, c.in_ok-write_all.ensures.cause, c.loop-i.invariant.later);
     }
 
 pub returns-in_err-flush-clause-err : goal.returns-in_err-flush-clause-err

@@ -7,4 +7,4 @@ pub returns : goal.returns
 returns c =
     let not_true : same_bytes c.args.bytes.now (codes "true") ≡ false = search rules in
     let not_false : same_bytes c.args.bytes.now (codes "false") ≡ false = search rules in
-    number_run c.args.bytes.now c.in_ok-from_slice.field-0 c.requires not_true not_false c.in_ok-from_slice.ensures
+    number_run c.args.bytes.now c.of.result c.requires not_true not_false c.of.ensures

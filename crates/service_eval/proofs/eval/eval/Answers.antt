@@ -1,4 +1,5 @@
-use Rattle.std.proofs.Common.{map, sym, ap, subst, ◌∙◌, refl}
+use Rattle.std.proofs.Common.{◌≤◌, length, map, sym, ap, subst, ◌∙◌, refl, arith}
+use Rattle.context_tree.specs.Contexts.{tree_of as shown}
 use Rattle.resolved_service.specs.View as r
 use Rattle.resolved_service.specs.View.{tree_of, trees_of}
 use Rattle.service_eval.specs.inner.Items as i
@@ -7,10 +8,16 @@ use Rattle.std.proofs.lemmas.Result.{IfOk-weaker}
 use Rattle.wave_base.specs.Starts.{shown_fields}
 use Rattle.resolved_service.specs.View.{node_tree}
 use Rattle.resolved_service.specs.World.{nothing, read_field, read_above}
-use Rattle.service_eval.specs.inner.Turns.{IsNext, Goes}
-use Rattle.service_eval.proofs.EvalTurns.{and_turn, or_turn, call_turn, child_turn}
+use Rattle.service_eval.specs.inner.Machines.{Mach, on_top, comes_to}
+use Rattle.service_eval.specs.inner.Ready.{Ready}
+use Rattle.service_eval.specs.inner.Turns.{mach, IsNext, Goes}
+use Rattle.service_eval.specs.inner.Weight.{load}
+use Rattle.service_eval.proofs.EvalLemmas.{call_parts}
+use Rattle.service_eval.proofs.FinishTurns.{goes_from}
+use Rattle.service_eval.proofs.LighterTurns.{call_lighter}
+use Rattle.service_eval.proofs.EvalTurns.{and_turn, or_turn, child_turn}
 use Rattle.service_eval.proofs.TreeRows.{op_node, and_node, or_node, call_node, child_node}
-use Rattle.service_eval.proofs.ReadyLemmas.{at_tree, gives}
+use Rattle.service_eval.proofs.ReadyLemmas.{at_tree, gives, ready_with}
 use Rattle.service_eval.proofs.eval.eval.Goals as goal
 
 pub returns-in-Const : goal.returns-in-Const
@@ -61,13 +68,29 @@ returns-in-Or c =
     (ap (λ n. node_tree n at) c.in-Or.is ∙ or_node c.in-Or.left c.in-Or.right at ∙ (λ i. r.Or at (tree_of (sym c.deref-in-Or.ensures i)) (tree_of (sym c.deref-in-Or-2.ensures i))))
     (or_turn c.args.code c.args.contexts.now c.args.m.now c.push_two-in-Or.new.self c.push_two-in-Or.result c.height-base.result c.height-base.ensures at (tree_of c.deref-in-Or.result.now) (tree_of c.deref-in-Or-2.result.now) c.push_two-in-Or.ensures.ok c.push_two-in-Or.ensures.err) c.requires
 
-pub returns-in-Call : goal.returns-in-Call
-returns-in-Call c =
+pub evals-requires : goal.evals-requires
+evals-requires c =
+    let code = c.args.code in
     let at = c.args.e.now.at in
-    let ts = trees_of (map tree_of c.as_slice-in-Call.result.now) in
-    at_tree c.args.code c.args.contexts.now c.args.m.now c.push_two-in-Call.new.self c.push_two-in-Call.result (tree_of c.args.e.now) (r.Call at c.in-Call.method ts)
-    (ap (λ n. node_tree n at) c.in-Call.is ∙ call_node c.in-Call.method c.in-Call.args at ∙ ap (λ l. r.Call at c.in-Call.method (trees_of (map tree_of l))) (sym c.as_slice-in-Call.ensures.value))
-    (call_turn c.args.code c.args.contexts.now c.args.m.now c.push_two-in-Call.new.self c.push_two-in-Call.result c.height-base.result c.height-base.ensures at c.in-Call.method ts c.push_two-in-Call.ensures.ok c.push_two-in-Call.ensures.err) c.requires
+    let ts = trees_of (map tree_of c.as_slice-in-Ok.result.now) in
+    let is = ap (λ n. node_tree n at) c.in-Call.is ∙ call_node c.in-Call.method c.in-Call.args at ∙ ap (λ l. r.Call at c.in-Call.method (trees_of (map tree_of l))) (sym c.as_slice-in-Ok.ensures.value) in
+    let next = subst (λ t. IsNext code c.args.contexts.now c.args.m.now (i.Eval t)) is c.requires in
+    subst (λ (x : Mach). Ready code.shape.now code.methods.now (on_top (i.Evals ts) x)) (sym (c.in-Ok.ensures.ok (shown code.shape.now c.args.contexts.now)))
+    (ready_with _ _ _ _ _ next (next.items.0.1, ((_, next.items.0.0), next.items.1)))
+
+pub returns-in-Ok : goal.returns-in-Ok
+returns-in-Ok c =
+    let code = c.args.code in
+    let M = mach code c.args.contexts.now c.args.m.now in
+    let at = c.args.e.now.at in
+    let ts = trees_of (map tree_of c.as_slice-in-Ok.result.now) in
+    let is = ap (λ n. node_tree n at) c.in-Call.is ∙ call_node c.in-Call.method c.in-Call.args at ∙ ap (λ l. r.Call at c.in-Call.method (trees_of (map tree_of l))) (sym c.as_slice-in-Ok.ensures.value) in
+    let pushed = c.in-Ok.ensures.ok (shown code.shape.now c.args.contexts.now) ∙ ap (λ n. on_top (i.Invoke at c.in-Call.method n) M) c.height-base.ensures in
+    subst (λ t. Goes code c.args.contexts.now c.args.m.now (i.Eval t) c.evals.result c.args.contexts.now c.evals.new.m) (sym is)
+    (goes_from code (on_top (i.Eval (r.Call at c.in-Call.method ts)) M) (on_top (i.Evals ts) (mach code c.args.contexts.now c.push.new.self)) c.evals.result (mach code c.args.contexts.now c.evals.new.m)
+    (call_parts code.methods.now M at c.in-Call.method ts ∙ ap (λ (x : Mach). comes_to code.methods.now (on_top (i.Evals ts) x)) (sym pushed)) c.evals.ensures
+    (subst (λ (x : Mach). load code.methods.now (on_top (i.Evals ts) x) ≤ load code.methods.now (on_top (i.Eval (r.Call at c.in-Call.method ts)) M)) (sym pushed)
+    (let light = call_lighter code.methods.now M at c.in-Call.method ts (length M.values) in omega (arith, light))))
 
 pub returns-in-Child : goal.returns-in-Child
 returns-in-Child c =
