@@ -22,7 +22,7 @@ returns c =
     let o2 = c.put_shots.new.out.items in
     on_ok_weaker c.put_made.result
     (λ h. parts_put c.args.out.now.items o1 o2 c.put_messages.new.out.items c.put_made.new.out.items (ticket_line n (outcome_text shape c.args.name r.outcome)) (shots (shots_in r.outcome)) (messages r.messages) (made c.args.made.now)
-        c.in_ok-put_outcome_line.ensures
-        (c.in_ok-put_shots.ensures ∙ ap (λ xs. o1 ++ concat (shots xs)) c.shots_in.ensures)
-        (c.in_ok-put_messages.ensures ∙ ap (λ xs. o2 ++ concat (messages xs)) c.as_slice.ensures) h)
+    c.in_ok-put_outcome_line.ensures
+    (c.in_ok-put_shots.ensures ∙ ap (λ xs. o1 ++ concat (shots xs)) c.shots_in.ensures)
+    (c.in_ok-put_messages.ensures ∙ ap (λ xs. o2 ++ concat (messages xs)) c.as_slice.ensures) h)
     c.put_made.ensures

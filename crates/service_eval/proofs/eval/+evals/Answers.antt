@@ -58,8 +58,9 @@ returns-in-Err t c =
     let code = c.args.code in
     let M = mach code c.args.contexts.now c.args.m.now in
     let first = tree_of c.in-Some.first.now in
-    let others = trees_of (map tree_of c.in-Some.others.now) in
-    (subst (λ es. Fails (comes_to code.methods.now (on_top (i.Evals (trees_of (map tree_of es))) M)) c.in-Err.e M.state.world) (sym c.in-Some.ensures.some)
-    (subst (λ o. Fails o c.in-Err.e M.state.world) (sym (e.first_value code.methods.now M first others))
-    (e.found_fails code.methods.now (on_top (i.Evals others) M) first c.in-Err.e M.state.world c.in-Err.ensures.finds)),
-    c.requires.holds)
+    let others = trees_of (map tree_of c.in-Some.others.now) in (
+      subst (λ es. Fails (comes_to code.methods.now (on_top (i.Evals (trees_of (map tree_of es))) M)) c.in-Err.e M.state.world) (sym c.in-Some.ensures.some)
+          (subst (λ o. Fails o c.in-Err.e M.state.world) (sym (e.first_value code.methods.now M first others))
+          (e.found_fails code.methods.now (on_top (i.Evals others) M) first c.in-Err.e M.state.world c.in-Err.ensures.finds)),
+      c.requires.holds,
+    )
