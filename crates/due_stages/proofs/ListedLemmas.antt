@@ -11,7 +11,7 @@ use Rattle.wave_base.specs.declared.script.Script.{Script}
 use Rattle.wave_base.specs.declared.shape.Shape.{Shape}
 use Rattle.wave_base.specs.declared.shown.Shown.{Shown}
 use Rattle.wave_base.specs.declared.start.Start.{Start}
-use Rattle.wave_base.specs.Fold.{Head, created_lines, first_head, made_tickets, next_job, with_done}
+use Rattle.wave_base.specs.Fold.{Head, created_lines, first_head, made, next_job, with_done}
 use Rattle.wave_base.specs.Starts.{start_tree}
 use Rattle.script_fold.specs.Lines.{Meaning, most_jobs, name_of}
 use Rattle.script_fold.specs.Runs.{finished_of, ticket_of, whole_run}
@@ -30,7 +30,7 @@ none_is : {A : Type 0} (o : Option A) → is_none o ≡ true → o ≡ None
 none_is None e = refl
 none_is (Some x) e = cc
 
-made_many : (first : ℕ) (h : Head Line) (cs : List (List Line)) → length (made_tickets first h cs) ≡ length cs
+made_many : (first : ℕ) (h : Head Line) (cs : List (List Line)) → length (made first h cs) ≡ length cs
 made_many first h [] = refl
 made_many first h (c ∷ cs) = ap suc (made_many first (with_done h c) cs)
 
@@ -49,7 +49,7 @@ module _ (meaning : Meaning) (shape : Shape) (start : Start) (a : Script) (c : C
   pub as_many_made : length (finished_of meaning shape start a).made ≡ length (finished_of meaning shape start a).results
   as_many_made =
       let created : List (List Line) = map created_lines (whole_run meaning shape start a).results in
-      length-map (made_tickets start.next.0 (first_head a.batches) created) (map ticket_of)
+      length-map (made start.next.0 (first_head a.batches) created) (map ticket_of)
       ∙ made_many start.next.0 (first_head a.batches) created
       ∙ length-map (whole_run meaning shape start a).results created_lines
 
@@ -97,14 +97,14 @@ module _ (shape : Shape) (first : ℕ) (one other whole : Finished) (joined : Ar
   first_same k h = subst (λ n. IsSameAt whole n one k) (sym (zero-add k)) (record {
     result = ap (λ xs. slice_get xs k) joined.results ∙ get_first one.results other.results k h;
     name = ap (λ xs. slice_get xs k) joined.names ∙ get_first one.names other.names k (omega (arith, named, h));
-    made = ap (λ xs. slice_get xs k) joined.made ∙ get_first one.made other.made k (omega (arith, made_tickets, h));
+    made = ap (λ xs. slice_get xs k) joined.made ∙ get_first one.made other.made k (omega (arith, made, h));
   })
 
   other_same : (k : ℕ) → k < length other.results → IsSameAt whole (length one.results + k) other k
   other_same k h = record {
     result = ap (λ xs. slice_get xs (length one.results + k)) joined.results ∙ get_behind one.results other.results k;
     name = ap (λ xs. slice_get xs (length one.results + k)) joined.names ∙ ap (λ n. slice_get (one.names ++ other.names) (n + k)) (sym named) ∙ get_behind one.names other.names k;
-    made = ap (λ xs. slice_get xs (length one.results + k)) joined.made ∙ ap (λ n. slice_get (one.made ++ other.made) (n + k)) (sym made_tickets) ∙ get_behind one.made other.made k;
+    made = ap (λ xs. slice_get xs (length one.results + k)) joined.made ∙ ap (λ n. slice_get (one.made ++ other.made) (n + k)) (sym made) ∙ get_behind one.made other.made k;
   }
 
   first_part : events_from shape first one ≡ first_lines shape first whole (length one.results)
