@@ -17,7 +17,7 @@ pub returns-clause-most : goal.returns-clause-most
 returns-clause-most c = λ plan start fits begins labels s run.
     let k : Setting = setting_of plan.program fits.fit fits.verified plan.script.hosts in
     subst (λ (x : WorkNumbers). length labels ≤ size x + x.entered * most_moves (begin_in plan start) x) (work_same plan fits start begins (most_jobs plan.script.batches) ∙ sym (whole_is plan fits start begins))
-    ((c.bounded.ensures k plan.workers (begin_in plan start) plan.script.batches (begin_fits plan fits start begins) (plan_fits plan fits) labels s run).within (most_jobs plan.script.batches) (none_after plan fits start begins))
+    ((c.label_bounds.ensures k plan.workers (begin_in plan start) plan.script.batches (begin_fits plan fits start begins) (plan_fits plan fits) labels s run).within (most_jobs plan.script.batches) (none_after plan fits start begins))
 
 pub returns-clause-finished : goal.returns-clause-finished
 returns-clause-finished c = λ plan start fits begins labels s run finished.
@@ -27,5 +27,5 @@ returns-clause-finished c = λ plan start fits begins labels s run finished.
     (c.tickets.ensures k plan.workers (begin_in plan start) plan.script.batches (begin_fits plan fits start begins) (plan_fits plan fits) labels s run)
     (c.results.ensures k plan.workers (begin_in plan start) plan.script.batches (begin_fits plan fits start begins) (plan_fits plan fits) labels s run)
     (c.loads.ensures k plan.workers (begin_in plan start) plan.script.batches (begin_fits plan fits start begins) (plan_fits plan fits) labels s run finished) in
-    (c.bounded.ensures k plan.workers (begin_in plan start) plan.script.batches (begin_fits plan fits start begins) (plan_fits plan fits) labels s run).exactly finished
+    (c.label_bounds.ensures k plan.workers (begin_in plan start) plan.script.batches (begin_fits plan fits start begins) (plan_fits plan fits) labels s run).exactly finished
     ∙ ap (λ (x : WorkNumbers). size x + pass_count labels) (work_same plan fits start begins s.head.done ∙ work_over plan fits start begins s.head.done (ap (λ (w : Progress Fields EventResult Line). next_job w.head) (sym (folds_meet plan fits start begins s.head.done)) ∙ none))

@@ -5,4 +5,4 @@ use Rattle.serial_runs.proofs.plans.plans_leave_trails.Goals as goal
 
 pub returns : goal.returns
 returns c = λ plan start fits begins labels s r.
-    c.traced.ensures (setting_of plan.program fits.fit fits.verified plan.script.hosts) plan.workers (begin_in plan start) plan.script.batches (begin_fits plan fits start begins) (plan_fits plan fits) labels s r
+    c.trails_are_told.ensures (setting_of plan.program fits.fit fits.verified plan.script.hosts) plan.workers (begin_in plan start) plan.script.batches (begin_fits plan fits start begins) (plan_fits plan fits) labels s r

@@ -12,4 +12,4 @@ returns-clause-finished c = λ plan start fits begins labels s reached finished.
 pub returns-clause-passes : goal.returns-clause-passes
 returns-clause-passes c = λ m start s stands.
     let k : Setting = setting_of m.plan.program stands.fits.fit stands.fits.verified m.plan.script.hosts in
-    c.bounded.ensures k m.plan.workers (begin_in m.plan start) m.plan.script.batches (begin_fits m.plan stands.fits start stands.begins) (plan_fits m.plan stands.fits) stands.labels s stands.reached
+    c.label_bounds.ensures k m.plan.workers (begin_in m.plan start) m.plan.script.batches (begin_fits m.plan stands.fits start stands.begins) (plan_fits m.plan stands.fits) stands.labels s stands.reached

@@ -10,5 +10,5 @@ use Rattle.wave_machine.proofs.machine.Machine.enabled_labels.Goals as goal
 
 pub returns : goal.returns
 returns c =
-    subst (λ (z : Shown). IfOk c.enabled.result (λ ls. (start : Start) (s : TheState) → Stands z.kept start s → map label_of ls ≡ enabled_labels (plan_actors z.kept.plan.program) z.kept.plan.workers z.kept.plan.script.hosts s))
-    c.self.view_is c.enabled.ensures
+    subst (λ (z : Shown). IfOk c.enabled_labels.result (λ ls. (start : Start) (s : TheState) → Stands z.kept start s → map label_of ls ≡ enabled_labels (plan_actors z.kept.plan.program) z.kept.plan.workers z.kept.plan.script.hosts s))
+    c.self.view_is c.enabled_labels.ensures

@@ -12,5 +12,5 @@ use Rattle.wave_machine.proofs.machine.Machine.shown_lines.Goals as goal
 pub returns-clause-lines : goal.returns-clause-lines
 returns-clause-lines c =
     subst
-    (λ (z : Shown). IfOk c.shown.result (λ xs. (start : Start) (s : TheState) → Stands z.kept start s → (i : ℕ) (x : Line) → slice_get xs i ≡ Some x → IsLineOf (finished_of (code_ran z.kept.plan.program) z.kept.plan.program.shape start z.kept.plan.script) (c.args.from + i) x))
-    c.self.view_is c.shown.ensures.lines
+    (λ (z : Shown). IfOk c.shown_lines.result (λ xs. (start : Start) (s : TheState) → Stands z.kept start s → (i : ℕ) (x : Line) → slice_get xs i ≡ Some x → IsLineOf (finished_of (code_ran z.kept.plan.program) z.kept.plan.program.shape start z.kept.plan.script) (c.args.from + i) x))
+    c.self.view_is c.shown_lines.ensures.lines
