@@ -10,5 +10,5 @@ returns-in-Some c =
     let m = c.args.machine.now.kept in
     let fits = on.stands.fits in
     let k : Setting = setting_of m.plan.program fits.fit fits.verified m.plan.script.hosts in
-    let listed = c.listed.ensures k m.plan.workers (begin_in m.plan on.start) m.plan.script.batches (begin_fits m.plan fits on.start on.stands.begins) (plan_fits m.plan fits) on.stands.labels on.state on.stands.reached in
+    let listed = c.lists_are_exact.ensures k m.plan.workers (begin_in m.plan on.start) m.plan.script.batches (begin_fits m.plan fits on.start on.stands.begins) (plan_fits m.plan fits) on.stands.labels on.state on.stands.reached in
     first_enabled m c.in_ok-labels.labels c.in-Some.label.now on (c.in_ok-labels.ensures on.start on.state on.stands) c.in-Some.ensures.some listed
