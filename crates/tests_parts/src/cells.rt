@@ -3,6 +3,7 @@
 use event_cells::{Cell, Envelope, Hold, JobKind, Status};
 use migration_core::Letter;
 use std::alloc::Global;
+use std::process::Abort;
 use std::test::Fail;
 use tests_services::hall;
 use wave_base::{Host, OutOfMemory, Path, Ticket};
@@ -17,6 +18,44 @@ fn at(host: u8) -> Hold {
 // The actor of the seventh ticket is the number 5.
 fn seventh(alloc: Global) -> Result<Cell<u8>, OutOfMemory> {
     Cell::new(alloc, Ticket(7), JobKind::Event(2), 5, false)
+}
+
+// What cells promise is read in the seven that follow alone, not in each test.
+fn let_in(rt: &impl Abort, cell: &mut Cell<u8>, path: Path, hold: Hold) {
+    assert!(rt; cell.reserve(0).is_ok());
+    cell.let_in(path, hold);
+}
+
+fn start(cell: &mut Cell<u8>, path: Path) -> Option<u8> {
+    cell.start(path)
+}
+
+fn put_back(cell: &mut Cell<u8>, actor: u8) {
+    cell.put_back(actor);
+}
+
+fn take_mail(cell: &mut Cell<u8>, number: u32) -> Option<Envelope> {
+    cell.take_mail(number)
+}
+
+fn send(rt: &impl Abort, cell: &mut Cell<u8>, envelope: Envelope) {
+    assert!(rt; cell.outbox.sent_count() < 100);
+    assert!(rt; cell.reserve(1).is_ok());
+    cell.send(envelope);
+}
+
+fn release_outside(rt: &impl Abort, cell: &mut Cell<u8>, top: &Path) {
+    let mails = cell.held.as_slice().len();
+    assert!(rt; mails < 100 && cell.outbox.sent_count() < 100);
+    assert!(rt; cell.reserve(mails).is_ok());
+    cell.release_outside(top);
+}
+
+fn end(rt: &impl Abort, cell: &mut Cell<u8>) {
+    let mails = cell.held.as_slice().len();
+    assert!(rt; mails < 100 && cell.outbox.sent_count() < 100);
+    assert!(rt; cell.reserve(mails).is_ok());
+    cell.end();
 }
 
 fn is_release(mail: Option<&Envelope>, to: u8, path: Path) -> bool {
@@ -52,9 +91,9 @@ fn is_enter(mail: Option<&Envelope>, entry: u64) -> bool {
 fn an_admitted_event_enters_the_root(rt: HostRuntime) -> Result<(), Fail> {
     let mut cell = seventh(rt.alloc())?;
     assert!(rt; cell.outbox.sent_count() == 1);
-    let mail = cell.take_mail(1);
+    let mail = take_mail(&mut cell, 1);
     assert!(rt; is_enter(mail.as_ref(), 7));
-    assert!(rt; cell.take_mail(1).is_none());
+    assert!(rt; take_mail(&mut cell, 1).is_none());
     assert!(rt; cell.outbox.as_slice().is_empty());
     assert!(rt; cell.kind == JobKind::Event(2));
     Ok(())
@@ -64,24 +103,23 @@ fn an_admitted_event_enters_the_root(rt: HostRuntime) -> Result<(), Fail> {
 fn a_go_gives_up_what_is_outside(rt: HostRuntime) -> Result<(), Fail> {
     let mut cell = seventh(rt.alloc())?;
     let root = Path::root();
-    cell.reserve(3)?;
     cell.set_status(Status::Waiting(root));
-    cell.let_in(root, at(2));
+    let_in(&rt, &mut cell, root, at(2));
     assert!(rt; cell.status == Status::Ready(root));
     assert!(rt; cell.hold(&root) == Some(at(2)));
-    assert!(rt; cell.start(root) == Some(5));
+    assert!(rt; start(&mut cell, root) == Some(5));
     assert!(rt; cell.status == Status::Running(root) && cell.actor.is_none());
-    cell.put_back(6);
+    put_back(&mut cell, 6);
     assert!(rt; cell.status == Status::Travelling && cell.actor == Some(6));
     assert!(rt; cell.held.as_slice().len() == 1);
     assert!(rt; cell.outbox.sent_count() == 1);
-    cell.reserve(2)?;
-    cell.send(Envelope {
+    let visit = Envelope {
         to: Host(1),
         path: hall(-3),
         letter: Letter::Visit,
-    });
-    cell.release_outside(&hall(-3));
+    };
+    send(&rt, &mut cell, visit);
+    release_outside(&rt, &mut cell, &hall(-3));
     assert!(rt; matches!(cell.outbox.get(2), Some(mail) if mail.to == Host(1)));
     assert!(rt; is_release(cell.outbox.get(3), 2, root));
     assert!(rt; cell.held.as_slice().is_empty());
@@ -92,22 +130,18 @@ fn a_go_gives_up_what_is_outside(rt: HostRuntime) -> Result<(), Fail> {
 fn what_is_over_gives_up_all_in_path_order(rt: HostRuntime) -> Result<(), Fail> {
     let mut cell = seventh(rt.alloc())?;
     let root = Path::root();
-    cell.reserve(0)?;
-    cell.let_in(hall(-3), at(1));
-    cell.reserve(0)?;
-    cell.let_in(root, at(2));
-    let mails = cell.held.as_slice().len();
-    assert!(rt; mails == 2);
+    let_in(&rt, &mut cell, hall(-3), at(1));
+    let_in(&rt, &mut cell, root, at(2));
+    assert!(rt; cell.held.as_slice().len() == 2);
     assert!(rt; cell.outbox.sent_count() == 1);
-    cell.reserve(mails)?;
-    cell.end();
+    end(&rt, &mut cell);
     assert!(rt; cell.actor.is_none() && cell.status == Status::Ended);
     assert!(rt; cell.outbox.sent_count() == 3);
     assert!(rt; is_release(cell.outbox.get(2), 2, root));
     assert!(rt; is_release(cell.outbox.get(3), 1, hall(-3)));
     for number in [2, 1, 3] {
         assert!(rt; !cell.is_done());
-        assert!(rt; cell.take_mail(number).is_some());
+        assert!(rt; take_mail(&mut cell, number).is_some());
     }
     assert!(rt; cell.is_done());
     Ok(())
@@ -116,8 +150,7 @@ fn what_is_over_gives_up_all_in_path_order(rt: HostRuntime) -> Result<(), Fail> 
 #[test]
 fn a_context_is_let_go_without_a_release(rt: HostRuntime) -> Result<(), Fail> {
     let mut cell = seventh(rt.alloc())?;
-    cell.reserve(0)?;
-    cell.let_in(hall(-3), at(1));
+    let_in(&rt, &mut cell, hall(-3), at(1));
     cell.let_go(&hall(-3));
     assert!(rt; cell.hold(&hall(-3)).is_none());
     assert!(rt; cell.outbox.sent_count() == 1);

@@ -4,6 +4,7 @@ ghost use Rattle.std.specs.Prelude.{◌≡◌};
 
 use commit_order::{Commits, Committed};
 use std::alloc::Global;
+use std::process::Abort;
 use std::test::Fail;
 use wave_base::{EventResult, Outcome, Seq, Ticket, Value};
 
@@ -17,6 +18,19 @@ fn replied(alloc: Global, n: i64) -> EventResult
     }
 }
 
+// The next to be committed is this ticket with its reply. What is committed is compared in these two alone, not in each test.
+fn commits_next(rt: &impl Abort, alloc: Global, commits: &mut Commits, ticket: u32, n: i64) {
+    let wanted = Committed {
+        ticket: Ticket(ticket),
+        result: replied(alloc, n),
+    };
+    assert!(rt; commits.commit_next() == Some(wanted));
+}
+
+fn is_ready(rt: &impl Abort, alloc: Global, commits: &Commits, n: i64) {
+    assert!(rt; commits.ready() == Some(&replied(alloc, n)));
+}
+
 #[test]
 fn commits_in_the_order_of_tickets(rt: HostRuntime) -> Result<(), Fail> {
     let alloc = rt.alloc();
@@ -26,17 +40,9 @@ fn commits_in_the_order_of_tickets(rt: HostRuntime) -> Result<(), Fail> {
     assert!(rt; commits.ready().is_none());
     assert!(rt; commits.reserve().is_ok());
     commits.add_result(Ticket(7), replied(alloc, 70));
-    assert!(rt; commits.ready() == Some(&replied(alloc, 70)));
-    let first = Committed {
-        ticket: Ticket(7),
-        result: replied(alloc, 70),
-    };
-    assert!(rt; commits.commit_next() == Some(first));
-    let second = Committed {
-        ticket: Ticket(8),
-        result: replied(alloc, 80),
-    };
-    assert!(rt; commits.commit_next() == Some(second));
+    is_ready(&rt, alloc, &commits, 70);
+    commits_next(&rt, alloc, &mut commits, 7, 70);
+    commits_next(&rt, alloc, &mut commits, 8, 80);
     assert!(rt; commits.commit_next().is_none());
     Ok(())
 }

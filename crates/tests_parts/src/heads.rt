@@ -5,6 +5,7 @@ ghost use Rattle.wave_base.specs.declared.script.Line.{Line};
 
 use head_tickets::{Head, Job};
 use std::alloc::Global;
+use std::process::Abort;
 use std::test::Fail;
 use wave_base::{Call, Line, OutOfMemory, Script, Seq, Ticket};
 
@@ -26,6 +27,12 @@ fn two_batches(alloc: Global) -> Result<Script, OutOfMemory>
     Ok(Script { hosts: 1, batches })
 }
 
+// An event was admitted, under this ticket.
+fn is_event(rt: &impl Abort, alloc: Global, admitted: &(Ticket, Job), ticket: u32, event: u16) {
+    let wanted = (Ticket(ticket), Job::Event(call(alloc, event)));
+    assert!(rt; *admitted == wanted);
+}
+
 #[test]
 fn a_created_call_comes_after_what_is_known(rt: HostRuntime) -> Result<(), Fail> {
     let alloc = rt.alloc();
@@ -37,7 +44,7 @@ fn a_created_call_comes_after_what_is_known(rt: HostRuntime) -> Result<(), Fail>
     let calls = Seq::from_vec(vec![in alloc; call(alloc, 1)]?);
     assert!(rt; head.add_created(calls).as_slice() == [Ticket(2)].as_slice());
     assert!(rt; head.next() == Some(Ticket(2)));
-    assert!(rt; head.admit() == (Ticket(2), Job::Event(call(alloc, 1))));
+    is_event(&rt, alloc, &head.admit(), 2, 1);
     assert!(rt; head.next().is_none());
     Ok(())
 }
@@ -46,7 +53,7 @@ fn a_created_call_comes_after_what_is_known(rt: HostRuntime) -> Result<(), Fail>
 fn the_next_batch_comes_when_all_is_done(rt: HostRuntime) -> Result<(), Fail> {
     let alloc = rt.alloc();
     let mut head = Head::new_at(alloc, two_batches(alloc)?, Ticket(7));
-    assert!(rt; head.admit() == (Ticket(7), Job::Event(call(alloc, 0))));
+    is_event(&rt, alloc, &head.admit(), 7, 0);
     assert!(rt; head.next().is_none());
     assert!(rt; head.add_created(Seq::new(alloc)).is_empty());
     assert!(rt; head.batch_done());

@@ -3,6 +3,7 @@
 use context_queue::Entry;
 use host_map::*;
 use std::alloc::Global;
+use std::process::Abort;
 use std::test::Fail;
 use tests_services::hall;
 use wave_base::{Children, Host, Path, Record, Seq};
@@ -15,6 +16,34 @@ fn entry(alloc: Global) -> Entry {
     Entry::new(alloc, record)
 }
 
+// A context begins. What a store promises of changes is read in these five alone, not in each test.
+pub(crate) fn begin(rt: &impl Abort, alloc: Global, store: &mut HostStore, path: Path) {
+    assert!(rt; store.reserve().is_ok());
+    store.birth(path, entry(alloc));
+}
+
+// A mark tells where a context went.
+pub(crate) fn mark(rt: &impl Abort, store: &mut HostStore, path: Path, mark: Mark) {
+    assert!(rt; store.reserve().is_ok());
+    store.mark(path, mark);
+}
+
+fn take(store: &mut HostStore, path: &Path) -> Option<Entry> {
+    store.take(path)
+}
+
+// What is there gets another number of moves.
+fn set_moves(rt: &impl Abort, store: &mut HostStore, path: &Path, moves: u64) {
+    assert!(rt; store.has(path));
+    store.entry_mut(path).moves = moves;
+}
+
+// Or other counts.
+fn recount(rt: &impl Abort, store: &mut HostStore, path: &Path) {
+    assert!(rt; store.has(path));
+    store.entry_mut(path).recount(2, 0);
+}
+
 #[test]
 fn entries_come_and_go(rt: HostRuntime) -> Result<(), Fail> {
     let alloc = rt.alloc();
@@ -24,20 +53,16 @@ fn entries_come_and_go(rt: HostRuntime) -> Result<(), Fail> {
         to: Host(2),
         number: 1,
     };
-    store.reserve()?;
-    store.birth(path, entry(alloc));
+    begin(&rt, alloc, &mut store, path);
     assert!(rt; store.find(&path) == Found::Here);
     assert!(rt; store.find(&hall(5)) == Found::Unknown);
-    if store.has(&path) {
-        store.entry_mut(&path).moves = 3;
-    }
+    set_moves(&rt, &mut store, &path, 3);
     match store.entry(&path) {
         Some(entry) => assert!(rt; entry.moves == 3),
         None => assert!(rt; false),
     }
-    assert!(rt; store.take(&path).is_some());
-    store.reserve()?;
-    store.mark(path, there);
+    assert!(rt; take(&mut store, &path).is_some());
+    mark(&rt, &mut store, path, there);
     assert!(rt; store.find(&path) == Found::Gone(there));
     store.forget(&path);
     assert!(rt; store.find(&path) == Found::Unknown);
@@ -53,20 +78,16 @@ fn what_was_touched_is_told(rt: HostRuntime) -> Result<(), Fail> {
         number: 1,
     };
     for number in 4..7 {
-        store.reserve()?;
-        store.birth(hall(number), entry(alloc));
+        begin(&rt, alloc, &mut store, hall(number));
     }
     assert!(rt; store.counted_paths(alloc)?.is_empty());
-    if store.has(&hall(5)) {
-        store.entry_mut(&hall(5)).recount(2, 0);
-    }
+    recount(&rt, &mut store, &hall(5));
     let paths = store.counted_paths(alloc)?;
     assert!(rt; paths.len() == 1);
     for path in &paths {
         assert!(rt; *path == hall(5));
     }
-    store.reserve()?;
-    store.mark(hall(8), there);
+    mark(&rt, &mut store, hall(8), there);
     store.forget_marks();
     assert!(rt; store.find(&hall(8)) == Found::Unknown);
     Ok(())
@@ -77,10 +98,8 @@ fn a_context_has_its_place(rt: HostRuntime) -> Result<(), Fail> {
     let alloc = rt.alloc();
     let mut near = HostStore::new(alloc);
     let mut far = HostStore::new(alloc);
-    near.reserve()?;
-    near.birth(Path::root(), entry(alloc));
-    far.reserve()?;
-    far.birth(hall(-1), entry(alloc));
+    begin(&rt, alloc, &mut near, Path::root());
+    begin(&rt, alloc, &mut far, hall(-1));
     let hosts = [near, far];
     assert!(rt; place_of(&hosts, &Path::root()) == Some(Host(0)));
     assert!(rt; place_of(&hosts, &hall(-1)) == Some(Host(1)));

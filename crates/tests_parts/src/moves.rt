@@ -2,6 +2,7 @@
 
 ghost use Rattle.std.specs.Prelude.{◌≡◌};
 
+use crate::hosts::{begin, mark};
 use context_queue::Entry;
 use host_map::{Found, HostStore, Mark};
 use migration_core::*;
@@ -48,15 +49,12 @@ fn an_enter_follows_a_mark_once(rt: HostRuntime) -> Result<(), Fail> {
     let mut store = HostStore::new(alloc);
     let near = Path::root().child(step(1));
     let far = Path::root().child(step(2));
-    store.reserve()?;
-    store.birth(Path::root(), entry(alloc));
-    store.mark(
-        near,
-        Mark {
-            to: Host(5),
-            number: 2,
-        },
-    );
+    let there = Mark {
+        to: Host(5),
+        number: 2,
+    };
+    begin(&rt, alloc, &mut store, Path::root());
+    mark(&rt, &mut store, near, there);
     assert!(rt; goes(&store, Path::root(), 0) == Route::Deliver);
     assert!(rt; goes(&store, near, 1) == Route::Forward(Host(5)));
     assert!(rt; goes(&store, near, 2) == Route::Wait);

@@ -20,17 +20,30 @@ fn call(alloc: Global, event: u16) -> Call {
     }
 }
 
+// What outputs promise is read in these three alone, not in each test.
+fn send(outputs: &mut Outputs, message: Message) -> Result<(), SendError> {
+    outputs.send(message)
+}
+
+fn spawn(outputs: &mut Outputs, generation: u8, call: Call) -> Result<(), SpawnError> {
+    outputs.spawn(generation, call)
+}
+
+// How many messages and calls there are, which are taken.
+fn take(outputs: &mut Outputs) -> (usize, usize) {
+    let (messages, created) = outputs.take();
+    (messages.len(), created.len())
+}
+
 #[test]
 fn keeps_64_messages(rt: HostRuntime) -> Result<(), Fail> {
     let mut outputs = Outputs::new(rt.alloc());
     for n in 0..64 {
-        assert!(rt; outputs.send(message(rt.alloc(), n)?).is_ok());
+        assert!(rt; send(&mut outputs, message(rt.alloc(), n)?).is_ok());
     }
-    let refused = outputs.send(message(rt.alloc(), 64)?);
+    let refused = send(&mut outputs, message(rt.alloc(), 64)?);
     assert!(rt; matches!(refused, Err(SendError::Sends(_))));
-    let (messages, created) = outputs.take();
-    assert_eq!(rt; messages.len(), 64);
-    assert!(rt; created.is_empty());
+    assert_eq!(rt; take(&mut outputs), (64, 0));
     Ok(())
 }
 
@@ -38,14 +51,13 @@ fn keeps_64_messages(rt: HostRuntime) -> Result<(), Fail> {
 fn keeps_4_calls_of_the_first_generations(rt: HostRuntime) -> Result<(), Fail> {
     let mut outputs = Outputs::new(rt.alloc());
     for event in 0..4 {
-        assert!(rt; outputs.spawn(3, call(rt.alloc(), event)).is_ok());
+        assert!(rt; spawn(&mut outputs, 3, call(rt.alloc(), event)).is_ok());
     }
-    let refused = outputs.spawn(4, call(rt.alloc(), 4));
+    let refused = spawn(&mut outputs, 4, call(rt.alloc(), 4));
     assert!(rt; matches!(refused, Err(SpawnError::Generation(_))));
-    let refused = outputs.spawn(3, call(rt.alloc(), 5));
+    let refused = spawn(&mut outputs, 3, call(rt.alloc(), 5));
     assert!(rt; matches!(refused, Err(SpawnError::Spawns(_))));
     outputs.discard();
-    let (messages, created) = outputs.take();
-    assert!(rt; messages.is_empty() && created.is_empty());
+    assert_eq!(rt; take(&mut outputs), (0, 0));
     Ok(())
 }

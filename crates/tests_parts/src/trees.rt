@@ -37,6 +37,22 @@ fn join(alloc: Global, shape: &Shape, tree: &mut Tree, key: i64) -> Result<(), O
     Ok(())
 }
 
+// The tree of the root, and of halls that joined one after the other.
+fn tree_of(alloc: Global, keys: &[i64]) -> Result<Tree, OutOfMemory> {
+    let shape = halls(alloc)?;
+    let mut tree = Tree::start(alloc, &shape)?;
+    for key in keys {
+        join(alloc, &shape, &mut tree, *key)?;
+    }
+    Ok(tree)
+}
+
+// It has these contexts.
+fn lists(rt: &impl Abort, alloc: Global, tree: &Tree, wanted: &[Shot]) -> Result<(), OutOfMemory> {
+    assert!(rt; tree.shots(alloc)?.as_slice() == wanted);
+    Ok(())
+}
+
 // Two contexts in path order, with these numbers.
 fn two(alloc: Global, first: i64, second: i64) -> Result<Seq<Shot>, OutOfMemory>
     ensures ordered { IfOk result IsOrdered }
@@ -66,16 +82,13 @@ fn has(
     second: i64,
 ) -> Result<(), OutOfMemory> {
     let wanted = two(alloc, first, second)?;
-    assert!(rt; tree.shots(alloc)?.as_slice() == wanted.as_slice());
-    Ok(())
+    lists(rt, alloc, tree, wanted.as_slice())
 }
 
 #[test]
 fn contexts_join_with_initial_fields(rt: HostRuntime) -> Result<(), Fail> {
     let alloc = rt.alloc();
-    let shape = halls(alloc)?;
-    let mut tree = Tree::start(alloc, &shape)?;
-    tree.enter(alloc, &shape, &hall(2))?;
+    let tree = tree_of(alloc, &[2])?;
     match tree.get(&hall(2)) {
         Some(record) => assert!(rt; record.fields.as_slice() == [Value::Int(7)].as_slice()),
         None => assert!(rt; false),
@@ -88,11 +101,9 @@ fn contexts_join_with_initial_fields(rt: HostRuntime) -> Result<(), Fail> {
 #[test]
 fn a_context_keeps_its_slot(rt: HostRuntime) -> Result<(), Fail> {
     let alloc = rt.alloc();
-    let shape = halls(alloc)?;
-    let mut tree = Tree::start(alloc, &shape)?;
-    tree.enter(alloc, &shape, &hall(2))?;
     let shots = [shot(alloc, Path::root(), 3)?, shot(alloc, hall(2), 7)?];
-    assert!(rt; tree.shots(alloc)?.as_slice() == shots.as_slice());
+    let tree = tree_of(alloc, &[2])?;
+    lists(&rt, alloc, &tree, &shots)?;
     assert!(rt; tree.slot(&Path::root()) == Some(0));
     assert!(rt; tree.slot(&hall(2)) == Some(1));
     assert!(rt; tree.slot(&hall(-2)).is_none());
@@ -106,11 +117,7 @@ fn a_context_keeps_its_slot(rt: HostRuntime) -> Result<(), Fail> {
 #[test]
 fn contexts_are_listed_in_path_order(rt: HostRuntime) -> Result<(), Fail> {
     let alloc = rt.alloc();
-    let shape = halls(alloc)?;
-    let mut tree = Tree::start(alloc, &shape)?;
-    for key in [2, -7, 9, -1] {
-        join(alloc, &shape, &mut tree, key)?;
-    }
+    let tree = tree_of(alloc, &[2, -7, 9, -1])?;
     let mut keys = Vec::new(alloc);
     for shot in tree.shots(alloc)?.as_slice() {
         if let Some(step) = shot.path.step(0) {

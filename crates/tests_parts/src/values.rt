@@ -30,6 +30,21 @@ fn flag(b: bool) -> Result<Value, OpError> {
     Ok(Value::Bool(b))
 }
 
+// A row gives what it has to. Answers are compared here alone, not in each test.
+fn gives(
+    rt: &impl Abort,
+    row: usize,
+    answer: Result<Value, OpError>,
+    wanted: Result<Value, OpError>,
+) {
+    assert!(rt; answer == wanted, "row {row}");
+}
+
+// The same where nothing asks for memory.
+fn reads(rt: &impl Abort, answer: Result<Value, TrapKind>, wanted: Result<Value, TrapKind>) {
+    assert!(rt; answer == wanted);
+}
+
 // A number as a text. Were it another value, this would be a trap, which no test wants of it.
 #[tactic(auto, unfolding(value_ops::specs::Operators::takes_of, value_ops::specs::Operators::operators))]
 fn digits(alloc: Global, n: i64) -> Result<Txt, OpError> {
@@ -51,13 +66,18 @@ fn joined(alloc: Global, s: Txt, t: Txt) -> Result<Txt, OpError> {
     }
 }
 
+// The map of these pairs, each put behind the one before it.
+fn map_of(alloc: Global, pairs: &[(i64, i64)]) -> Result<Table, PutError> {
+    let mut table = Table::new(alloc);
+    for (key, value) in pairs {
+        table.put(*key, *value)?;
+    }
+    Ok(table)
+}
+
 // A map in which one pair was put twice.
 fn sample(alloc: Global) -> Result<Table, PutError> {
-    let mut table = Table::new(alloc);
-    table.put(2, 7)?;
-    table.put(-3, 1)?;
-    table.put(2, 8)?;
-    Ok(table)
+    map_of(alloc, &[(2, 7), (-3, 1), (2, 8)])
 }
 
 fn of_ints(
@@ -71,38 +91,57 @@ fn of_ints(
     requires row { row < OPERATORS }
     requires kinds { takes_of row ≡ Kind.Int ∷ Kind.Int ∷ [] }
 {
-    assert!(rt;
-        apply(alloc, row, &[Value::Int(a), Value::Int(b)]) == wanted,
-        "row {row}"
-    );
+    let answer = apply(alloc, row, &[Value::Int(a), Value::Int(b)]);
+    gives(rt, row, answer, wanted);
 }
 
 // The row's answer at the texts of two numbers.
-fn of_texts(alloc: Global, row: usize, s: i64, t: i64) -> Result<Value, OpError>
+fn of_texts(
+    rt: &impl Abort,
+    alloc: Global,
+    row: usize,
+    s: i64,
+    t: i64,
+    wanted: Result<Value, OpError>,
+) -> Result<(), OpError>
     requires row { row < OPERATORS }
     requires kinds { takes_of row ≡ Kind.Text ∷ Kind.Text ∷ [] }
 {
-    let s = digits(alloc, s)?;
-    let t = digits(alloc, t)?;
-    apply(alloc, row, &[Value::Str(s), Value::Str(t)])
+    let (s, t) = (digits(alloc, s)?, digits(alloc, t)?);
+    let operands = [Value::Str(s), Value::Str(t)];
+    gives(rt, row, apply(alloc, row, &operands), wanted);
+    Ok(())
 }
 
 #[tactic(auto, unfolding(value_ops::specs::Operators::takes_of, value_ops::specs::Operators::operators))]
-fn part_of(alloc: Global, text: i64, from: i64, to: i64) -> Result<Value, OpError> {
+fn part_of(
+    rt: &impl Abort,
+    alloc: Global,
+    text: i64,
+    from: i64,
+    to: i64,
+    wanted: Result<Value, OpError>,
+) -> Result<(), OpError> {
     let text = digits(alloc, text)?;
-    apply(
-        alloc,
-        27,
-        &[Value::Str(text), Value::Int(from), Value::Int(to)],
-    )
+    let operands = [Value::Str(text), Value::Int(from), Value::Int(to)];
+    gives(rt, 27, apply(alloc, 27, &operands), wanted);
+    Ok(())
 }
 
-// The row's answer at a map and an int.
-fn of_map(alloc: Global, row: usize, map: Table, key: i64) -> Result<Value, OpError>
+// The row's answer at the sample and an int.
+fn of_map(
+    rt: &impl Abort,
+    alloc: Global,
+    row: usize,
+    key: i64,
+    wanted: Result<Value, OpError>,
+) -> Result<(), PutError>
     requires row { row < OPERATORS }
     requires kinds { takes_of row ≡ Kind.Map ∷ Kind.Int ∷ [] }
 {
-    apply(alloc, row, &[Value::Map(map), Value::Int(key)])
+    let operands = [Value::Map(sample(alloc)?), Value::Int(key)];
+    gives(rt, row, apply(alloc, row, &operands), wanted);
+    Ok(())
 }
 
 #[test]
@@ -123,7 +162,7 @@ fn rows_of_ints(rt: HostRuntime) -> Result<(), Fail> {
     of_ints(&rt, alloc, GE, LEAST, GREATEST, flag(false));
     of_ints(&rt, alloc, MIN, LEAST, GREATEST, int(LEAST));
     of_ints(&rt, alloc, MAX, LEAST, GREATEST, int(GREATEST));
-    assert!(rt; apply_ints(DIV, 7, -2) == Ok(Value::Int(-3)));
+    reads(&rt, apply_ints(DIV, 7, -2), Ok(Value::Int(-3)));
     Ok(())
 }
 
@@ -131,7 +170,7 @@ fn of_int(rt: &impl Abort, alloc: Global, row: usize, a: i64, wanted: Result<Val
     requires row { row < OPERATORS }
     requires kinds { takes_of row ≡ Kind.Int ∷ [] }
 {
-    assert!(rt; apply(alloc, row, &[Value::Int(a)]) == wanted, "row {row}");
+    gives(rt, row, apply(alloc, row, &[Value::Int(a)]), wanted);
 }
 
 fn of_flags(rt: &impl Abort, alloc: Global, row: usize, a: bool, b: bool, wanted: bool)
@@ -139,23 +178,27 @@ fn of_flags(rt: &impl Abort, alloc: Global, row: usize, a: bool, b: bool, wanted
     requires kinds { takes_of row ≡ Kind.Bool ∷ Kind.Bool ∷ [] }
 {
     let operands = [Value::Bool(a), Value::Bool(b)];
-    assert!(rt; apply(alloc, row, &operands) == flag(wanted), "row {row}");
+    gives(rt, row, apply(alloc, row, &operands), flag(wanted));
 }
 
-// The row's answer at a map.
-fn of_table(alloc: Global, row: usize, map: Table) -> Result<Value, OpError>
+// The row's answer at the sample.
+fn of_table(rt: &impl Abort, alloc: Global, row: usize, wanted: i64) -> Result<(), PutError>
     requires row { row < OPERATORS }
     requires kinds { takes_of row ≡ Kind.Map ∷ [] }
 {
-    apply(alloc, row, &[Value::Map(map)])
+    let operands = [Value::Map(sample(alloc)?)];
+    gives(rt, row, apply(alloc, row, &operands), int(wanted));
+    Ok(())
 }
 
 // The row's answer at the text of a number.
-fn of_digits(alloc: Global, row: usize, n: i64) -> Result<Value, OpError>
+fn of_digits(rt: &impl Abort, alloc: Global, row: usize, n: i64, wanted: i64) -> Result<(), OpError>
     requires row { row < OPERATORS }
     requires kinds { takes_of row ≡ Kind.Text ∷ [] }
 {
-    apply(alloc, row, &[Value::Str(digits(alloc, n)?)])
+    let operands = [Value::Str(digits(alloc, n)?)];
+    gives(rt, row, apply(alloc, row, &operands), int(wanted));
+    Ok(())
 }
 
 #[test]
@@ -165,7 +208,8 @@ fn rows_of_one_operand(rt: HostRuntime) -> Result<(), Fail> {
     of_int(&rt, alloc, NEG, LEAST, trap(TrapKind::Overflow));
     of_int(&rt, alloc, ABS, LEAST, trap(TrapKind::Overflow));
     of_int(&rt, alloc, ABS, -GREATEST, int(GREATEST));
-    assert!(rt; apply(alloc, NOT, &[Value::Bool(true)]) == flag(false));
+    let not_true = apply(alloc, NOT, &[Value::Bool(true)]);
+    gives(&rt, NOT, not_true, flag(false));
     of_flags(&rt, alloc, BEQ, false, false, true);
     of_flags(&rt, alloc, BNE, false, false, false);
     Ok(())
@@ -175,10 +219,10 @@ fn rows_of_one_operand(rt: HostRuntime) -> Result<(), Fail> {
 #[tactic(auto, unfolding(value_ops::specs::Operators::takes_of, value_ops::specs::Operators::operators))]
 fn rows_of_one_text_or_map(rt: HostRuntime) -> Result<(), Fail> {
     let alloc = rt.alloc();
-    assert!(rt; of_table(alloc, SIZE, sample(alloc)?) == int(2));
-    assert!(rt; of_digits(alloc, LEN, LEAST) == int(20));
-    assert!(rt; of_table(alloc, SUM, sample(alloc)?) == int(9));
-    assert!(rt; of_digits(alloc, NUM, LEAST) == int(LEAST));
+    of_table(&rt, alloc, SIZE, 2)?;
+    of_digits(&rt, alloc, LEN, LEAST, 20)?;
+    of_table(&rt, alloc, SUM, 9)?;
+    of_digits(&rt, alloc, NUM, LEAST, LEAST)?;
     Ok(())
 }
 
@@ -186,21 +230,20 @@ fn rows_of_one_text_or_map(rt: HostRuntime) -> Result<(), Fail> {
 #[tactic(auto, unfolding(value_ops::specs::Operators::takes_of, value_ops::specs::Operators::gives_of, value_ops::specs::Operators::operators))]
 fn rows_of_texts(rt: HostRuntime) -> Result<(), Fail> {
     let alloc = rt.alloc();
-    assert!(rt; of_texts(alloc, TEQ, 7, 7) == flag(true));
-    assert!(rt; of_texts(alloc, TNE, 7, 7) == flag(false));
-    assert!(rt; of_texts(alloc, TLT, 10, 9) == flag(true));
-    assert!(rt; of_texts(alloc, CAT, -12, 34) == text(alloc, -1234));
-    assert!(rt; of_texts(alloc, STARTS, -12, -1) == flag(true));
-    assert!(rt; of_texts(alloc, STARTS, -1, -12) == flag(false));
-    assert!(rt; part_of(alloc, 12345, 1, 3) == text(alloc, 23));
-    assert!(rt; part_of(alloc, 12, 1, 3) == trap(TrapKind::Absent));
+    of_texts(&rt, alloc, TEQ, 7, 7, flag(true))?;
+    of_texts(&rt, alloc, TNE, 7, 7, flag(false))?;
+    of_texts(&rt, alloc, TLT, 10, 9, flag(true))?;
+    of_texts(&rt, alloc, CAT, -12, 34, text(alloc, -1234))?;
+    of_texts(&rt, alloc, STARTS, -12, -1, flag(true))?;
+    of_texts(&rt, alloc, STARTS, -1, -12, flag(false))?;
+    part_of(&rt, alloc, 12345, 1, 3, text(alloc, 23))?;
+    part_of(&rt, alloc, 12, 1, 3, trap(TrapKind::Absent))?;
     let one = digits(alloc, 1)?;
     assert!(rt; compare_texts(TEQ, &one, &one));
     Ok(())
 }
 
 #[test]
-#[tactic(auto, unfolding(value_ops::specs::Operators::takes_of, value_ops::specs::Operators::operators))]
 fn longest_text(rt: HostRuntime) -> Result<(), Fail> {
     let alloc = rt.alloc();
     let mut long = digits(alloc, 12345678)?;
@@ -216,15 +259,14 @@ fn longest_text(rt: HostRuntime) -> Result<(), Fail> {
 #[tactic(auto, unfolding(value_ops::specs::Operators::takes_of, value_ops::specs::Operators::gives_of, value_ops::specs::Operators::operators))]
 fn rows_of_maps(rt: HostRuntime) -> Result<(), Fail> {
     let alloc = rt.alloc();
-    assert!(rt; of_map(alloc, AT, sample(alloc)?, 2) == int(8));
-    assert!(rt; of_map(alloc, AT, sample(alloc)?, 8) == trap(TrapKind::Absent));
-    assert!(rt; of_map(alloc, HAS, sample(alloc)?, 7) == flag(false));
-    assert!(rt; of_map(alloc, KEY, sample(alloc)?, 0) == int(-3));
-    assert!(rt; of_map(alloc, KEY, sample(alloc)?, 2) == trap(TrapKind::Absent));
-    let mut cut = Table::new(alloc);
-    cut.put(-3, 1)?;
-    assert!(rt; of_map(alloc, CUT, sample(alloc)?, 2) == Ok(Value::Map(cut)));
-    assert!(rt; read_map(KEY, &sample(alloc)?, 1) == Ok(Value::Int(2)));
+    of_map(&rt, alloc, AT, 2, int(8))?;
+    of_map(&rt, alloc, AT, 8, trap(TrapKind::Absent))?;
+    of_map(&rt, alloc, HAS, 7, flag(false))?;
+    of_map(&rt, alloc, KEY, 0, int(-3))?;
+    of_map(&rt, alloc, KEY, 2, trap(TrapKind::Absent))?;
+    let cut = map_of(alloc, &[(-3, 1)])?;
+    of_map(&rt, alloc, CUT, 2, Ok(Value::Map(cut)))?;
+    reads(&rt, read_map(KEY, &sample(alloc)?, 1), Ok(Value::Int(2)));
     Ok(())
 }
 
@@ -232,12 +274,10 @@ fn rows_of_maps(rt: HostRuntime) -> Result<(), Fail> {
 #[test]
 #[tactic(auto, unfolding(value_ops::specs::Operators::takes_of, value_ops::specs::Operators::operators))]
 fn sums_pass_on_the_way(rt: HostRuntime) -> Result<(), Fail> {
-    let mut map = Table::new(rt.alloc());
-    map.put(0, GREATEST)?;
-    map.put(1, GREATEST)?;
-    assert!(rt; sum_up(SUM, &map) == Err(TrapKind::Overflow));
-    map.put(2, -GREATEST)?;
-    assert!(rt; sum_up(SUM, &map) == Ok(Value::Int(GREATEST)));
+    let great = map_of(rt.alloc(), &[(0, GREATEST), (1, GREATEST)])?;
+    reads(&rt, sum_up(SUM, &great), Err(TrapKind::Overflow));
+    let less = map_of(rt.alloc(), &[(0, GREATEST), (1, GREATEST), (2, -GREATEST)])?;
+    reads(&rt, sum_up(SUM, &less), Ok(Value::Int(GREATEST)));
     Ok(())
 }
 
@@ -246,11 +286,11 @@ fn sums_pass_on_the_way(rt: HostRuntime) -> Result<(), Fail> {
 fn texts_that_write_numbers(rt: HostRuntime) -> Result<(), Fail> {
     let alloc = rt.alloc();
     let past = Txt::from_bytes(alloc, b"9223372036854775808")?;
-    assert!(rt; read_text(NUM, &past) == Err(TrapKind::Overflow));
+    reads(&rt, read_text(NUM, &past), Err(TrapKind::Overflow));
     let zeros = Txt::from_bytes(alloc, b"-007")?;
-    assert!(rt; read_text(NUM, &zeros) == Ok(Value::Int(-7)));
+    reads(&rt, read_text(NUM, &zeros), Ok(Value::Int(-7)));
     let alone = Txt::from_bytes(alloc, b"-")?;
-    assert!(rt; read_text(NUM, &alone) == Err(TrapKind::Absent));
+    reads(&rt, read_text(NUM, &alone), Err(TrapKind::Absent));
     Ok(())
 }
 
@@ -267,7 +307,7 @@ fn full_map(rt: HostRuntime) -> Result<(), Fail> {
     assert!(rt; put_pair(&mut map, 1000, 0) == Err(OpError::Trap(TrapKind::Full)));
     put_pair(&mut map, 999, 0)?;
     let full = [Value::Map(map), Value::Int(-1), Value::Int(0)];
-    assert!(rt; apply(alloc, PUT, &full) == trap(TrapKind::Full));
+    gives(&rt, PUT, apply(alloc, PUT, &full), trap(TrapKind::Full));
     Ok(())
 }
 

@@ -55,6 +55,14 @@ fn program(alloc: Global, code: &[Instr]) -> Result<Program, OutOfMemory>
     })
 }
 
+// What the verifier says of a program. What it promises is read here alone, not in each test.
+fn verdict_on(alloc: Global, program: Program) -> Result<Verified, VerifyError>
+    requires { IsSmall program }
+    ensures { IfOk result (λ v. v ≡ program) }
+{
+    verify(alloc, program)
+}
+
 #[test]
 fn accepts_a_counter(rt: HostRuntime) -> Result<(), Fail> {
     let alloc = rt.alloc();
@@ -66,8 +74,8 @@ fn accepts_a_counter(rt: HostRuntime) -> Result<(), Fail> {
         Instr::Field(0),
         Instr::Reply,
     ];
-    let verified = verify(alloc, program(alloc, &code)?)?;
-    assert_eq!(rt; verified.program().functions.len(), 1);
+    let accepted = verdict_on(alloc, program(alloc, &code)?)?;
+    assert_eq!(rt; accepted.program().functions.len(), 1);
     Ok(())
 }
 
@@ -80,7 +88,7 @@ fn refuses(
 ) -> Result<(), OutOfMemory>
     requires { length code.now ≤ 65535 }
 {
-    assert_eq!(rt; verify(alloc, program(alloc, code)?).err(), Some(error));
+    assert_eq!(rt; verdict_on(alloc, program(alloc, code)?).err(), Some(error));
     Ok(())
 }
 
@@ -236,12 +244,21 @@ fn take_and_buy(alloc: Global) -> Result<Program, OutOfMemory>
 #[test]
 fn keeps_what_is_read_from_below(rt: HostRuntime) -> Result<(), Fail> {
     let alloc = rt.alloc();
-    let verified = verify(alloc, take_and_buy(alloc)?)?;
-    assert!(rt; verified.program().shape.classes.len() == 3);
-    assert_eq!(rt; verified.kept_fields(Class(0)).as_slice(), [false].as_slice());
-    assert_eq!(rt; verified.kept_fields(Class(1)).as_slice(), [true].as_slice());
-    assert_eq!(rt; verified.kept_fields(Class(2)).as_slice(), [false].as_slice());
-    assert!(rt; !verified.peeks(1));
+    let accepted = verdict_on(alloc, take_and_buy(alloc)?)?;
+    assert!(rt; accepted.program().shape.classes.len() == 3);
+    assert_eq!(rt;
+        accepted.kept_fields(Class(0)).as_slice(),
+        [false].as_slice()
+    );
+    assert_eq!(rt;
+        accepted.kept_fields(Class(1)).as_slice(),
+        [true].as_slice()
+    );
+    assert_eq!(rt;
+        accepted.kept_fields(Class(2)).as_slice(),
+        [false].as_slice()
+    );
+    assert!(rt; !accepted.peeks(1));
     Ok(())
 }
 
@@ -264,14 +281,14 @@ fn with_event(alloc: Global, code: &[Instr]) -> Result<Program, OutOfMemory>
 fn looks_from(alloc: Global, code: &[Instr]) -> Result<Option<usize>, Fail>
     requires { length code.now ≤ 65535 }
 {
-    Ok(verify(alloc, with_event(alloc, code)?)?.looks_from(2))
+    Ok(verdict_on(alloc, with_event(alloc, code)?)?.looks_from(2))
 }
 
 // Whether an event with this code peeks.
 fn peeks(alloc: Global, code: &[Instr]) -> Result<bool, Fail>
     requires { length code.now ≤ 65535 }
 {
-    Ok(verify(alloc, with_event(alloc, code)?)?.peeks(2))
+    Ok(verdict_on(alloc, with_event(alloc, code)?)?.peeks(2))
 }
 
 #[test]
@@ -302,7 +319,7 @@ fn shared<R: Threads>(rt: &R, verified: Verified) -> (bool, bool, Verified) {
 fn a_verified_program_is_shared_by_threads(rt: HostRuntime) -> Result<(), Fail> {
     let alloc = rt.alloc();
     let code = [Instr::Field(0), Instr::Reply];
-    let (here, there, verified) = shared(&rt, verify(alloc, program(alloc, &code)?)?);
+    let (here, there, verified) = shared(&rt, verdict_on(alloc, program(alloc, &code)?)?);
     assert!(rt; here && there);
     assert_eq!(rt; verified.program().functions.len(), 1);
     Ok(())
