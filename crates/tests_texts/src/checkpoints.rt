@@ -3,6 +3,7 @@
 ghost use Rattle.wave_base.specs.Names.{HasNames};
 ghost use Rattle.wave_base.specs.Shapes.{IsShape};
 
+use crate::same::{is_point_fault, is_text};
 use crate::shapes::market_shape;
 use checkpoint_store::{CheckError, read_checkpoint, write_checkpoint};
 use std::alloc::Global;
@@ -86,7 +87,7 @@ fn is_read_and_written(
     assert!(rt; point.start.next == Ticket(20_000_000));
     assert!(rt; point.start.shots.len() == 3);
     assert!(rt; matches!(point.start.places.get(1), Some(place) if place.host == Host(1)));
-    assert!(rt; write_checkpoint(alloc, shape, &point)?.as_slice() == text);
+    is_text(rt, write_checkpoint(alloc, shape, &point)?.as_slice(), text);
     Ok(())
 }
 
@@ -131,11 +132,11 @@ fn refuses_other_forms(rt: HostRuntime) -> Result<(), Fail> {
     let shape = market_shape(alloc)?;
     for (number, line) in &OTHER_FORMS {
         let said = refused_with(alloc, &shape, *number, line)?;
-        assert!(rt; said == Some(CheckError::Syntax { line: *number }));
+        is_point_fault(&rt, said, Some(CheckError::Syntax { line: *number }));
     }
     // a line `at ..` that is none counts for the head of the snapshot
     let said = refused_with(alloc, &shape, 9, b"et / seen=1")?;
-    assert!(rt; said == Some(CheckError::Syntax { line: 8 }));
+    is_point_fault(&rt, said, Some(CheckError::Syntax { line: 8 }));
     Ok(())
 }
 
@@ -157,7 +158,7 @@ fn refuses_other_services(rt: HostRuntime) -> Result<(), Fail> {
     let shape = market_shape(alloc)?;
     for (number, line) in &OTHER_SERVICES {
         let said = refused_with(alloc, &shape, *number, line)?;
-        assert!(rt; said == Some(CheckError::Service { line: *number }));
+        is_point_fault(&rt, said, Some(CheckError::Service { line: *number }));
     }
     Ok(())
 }
@@ -186,7 +187,7 @@ fn refuses_other_trees(rt: HostRuntime) -> Result<(), Fail> {
     let shape = market_shape(alloc)?;
     for (number, line) in &OTHER_TREES {
         let said = refused_with(alloc, &shape, *number, line)?;
-        assert!(rt; said == Some(CheckError::Tree { line: *number }));
+        is_point_fault(&rt, said, Some(CheckError::Tree { line: *number }));
     }
     Ok(())
 }
@@ -226,10 +227,10 @@ fn refuses_what_is_missing_or_too_many(rt: HostRuntime) -> Result<(), Fail> {
     for (count, more, number) in &OTHER_ENDS {
         let text = text_from(alloc, *count, more)?;
         let said = refused(alloc, &shape, text.as_slice());
-        assert!(rt; said == Some(CheckError::Syntax { line: *number }));
+        is_point_fault(&rt, said, Some(CheckError::Syntax { line: *number }));
     }
     let empty = text_from(alloc, 7, b"snapshot 0\nend\n")?;
     let said = refused(alloc, &shape, empty.as_slice());
-    assert!(rt; said == Some(CheckError::Tree { line: 8 }));
+    is_point_fault(&rt, said, Some(CheckError::Tree { line: 8 }));
     Ok(())
 }

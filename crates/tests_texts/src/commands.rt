@@ -2,6 +2,7 @@
 
 use command_words::{Command, Crew, Places, Schedule, command_of};
 use std::alloc::Global;
+use std::process::Abort;
 use std::test::Fail;
 use tests_services::words;
 use wave_base::{OutOfMemory, Words};
@@ -125,16 +126,23 @@ const REFUSED: [&str; 43] = [
     "-- run --map",
 ];
 
-// What these words ask for.
-fn asked(alloc: Global, text: &str) -> Result<Option<Command>, OutOfMemory> {
-    command_of(alloc, &words(alloc, text)?)
+// These words ask for this. Commands are compared here alone, not in each test.
+fn asks(
+    rt: &impl Abort,
+    alloc: Global,
+    text: &str,
+    wanted: Option<Command>,
+) -> Result<(), OutOfMemory> {
+    let asked = command_of(alloc, &words(alloc, text)?)?;
+    assert_eq!(rt; asked, wanted, "at {text}");
+    Ok(())
 }
 
 #[test]
 fn commands_are_read(rt: HostRuntime) -> Result<(), Fail> {
     let alloc = rt.alloc();
     for (text, command) in &COMMANDS {
-        assert_eq!(rt; asked(alloc, text)?, Some(*command), "at {text}");
+        asks(&rt, alloc, text, Some(*command))?;
     }
     Ok(())
 }
@@ -143,9 +151,9 @@ fn commands_are_read(rt: HostRuntime) -> Result<(), Fail> {
 fn other_words_are_refused(rt: HostRuntime) -> Result<(), Fail> {
     let alloc = rt.alloc();
     for text in &REFUSED {
-        assert_eq!(rt; asked(alloc, text)?, None, "at {text}");
+        asks(&rt, alloc, text, None)?;
     }
-    assert_eq!(rt; command_of(alloc, &Words::new(alloc))?, None);
+    assert!(rt; command_of(alloc, &Words::new(alloc))?.is_none());
     Ok(())
 }
 
@@ -158,10 +166,10 @@ fn crews_are_read(rt: HostRuntime) -> Result<(), Fail> {
             schedule: *schedule,
         };
         let run = Command::Run(Places::Unlisted, crew);
-        assert_eq!(rt; asked(alloc, text)?, Some(run), "at {text}");
+        asks(&rt, alloc, text, Some(run))?;
     }
     for (text, command) in &CREWS {
-        assert_eq!(rt; asked(alloc, text)?, Some(*command), "at {text}");
+        asks(&rt, alloc, text, Some(*command))?;
     }
     Ok(())
 }

@@ -2,9 +2,12 @@
 
 ghost use Rattle.std.specs.Prelude.{◌≤◌, length};
 ghost use Rattle.wave_base.specs.Shapes.{IsShape};
+ghost use Rattle.wave_base.specs.declared.limits.TheConstants.{PLACED_BYTES};
 
+use crate::same::is_script_fault;
+use crate::scripts;
 use crate::shapes::event_shape;
-use script_reader::{Elastic, Part, ScriptError, read_elastic, read_script};
+use script_reader::{Elastic, Part, ScriptError, read_elastic};
 use std::alloc::Global;
 use std::test::Fail;
 use wave_base::{EVENT_LINES, Host, Line, OutOfMemory, PLACED_BYTES, Path, Policy, Seq, Shape};
@@ -65,12 +68,21 @@ fn wanted(alloc: Global) -> Result<Elastic, OutOfMemory> {
     Ok(Elastic { hosts: 2, parts })
 }
 
+// What the reader says of a text. What it promises is read here alone, not in each test.
+fn read(alloc: Global, shape: &Shape, text: &[u8]) -> Result<Elastic, ScriptError>
+    requires shape { IsShape shape.now }
+    requires short { length text.now ≤ PLACED_BYTES }
+{
+    read_elastic(alloc, shape, text)
+}
+
 #[test]
 fn a_part_begins_at_each_policy(rt: HostRuntime) -> Result<(), Fail> {
     let alloc = rt.alloc();
     let shape = event_shape(alloc)?;
-    assert!(rt; read_elastic(alloc, &shape, TEXT) == Ok(wanted(alloc)?));
-    let empty = read_elastic(alloc, &shape, b"")?;
+    let wanted = wanted(alloc)?;
+    assert!(rt; read(alloc, &shape, TEXT)? == wanted);
+    let empty = read(alloc, &shape, b"")?;
     assert_eq!(rt; empty.hosts, 1);
     assert_eq!(rt; empty.parts.len(), 1);
     Ok(())
@@ -80,7 +92,7 @@ fn refusal(alloc: Global, shape: &Shape, text: &[u8]) -> Option<ScriptError>
     requires shape { IsShape shape.now }
     requires short { length text.now ≤ 1000 }
 {
-    read_elastic(alloc, shape, text).err()
+    read(alloc, shape, text).err()
 }
 
 // Lines that have not the form of a policy.
@@ -99,10 +111,14 @@ fn a_policy_has_its_form(rt: HostRuntime) -> Result<(), Fail> {
     let unknown = ScriptError::UnknownCommand { line: 2 };
     for text in &OTHER_FORMS {
         assert!(rt; text.len() <= 1000);
-        assert_eq!(rt; refusal(alloc, &shape, text), Some(unknown));
+        is_script_fault(&rt, refusal(alloc, &shape, text), Some(unknown));
     }
-    let plain = Err(ScriptError::UnknownCommand { line: 1 });
-    assert!(rt; read_script(alloc, &shape, b"balance by 1") == plain);
+    let plain = Some(ScriptError::UnknownCommand { line: 1 });
+    is_script_fault(
+        &rt,
+        scripts::read(alloc, &shape, b"balance by 1").err(),
+        plain,
+    );
     Ok(())
 }
 
@@ -134,33 +150,31 @@ fn refuses_each_fault_of_a_policy(rt: HostRuntime) -> Result<(), Fail> {
     let shape = event_shape(alloc)?;
     for (text, fault) in &FAULTS {
         assert!(rt; text.len() <= 1000);
-        assert_eq!(rt; refusal(alloc, &shape, text), Some(*fault));
+        is_script_fault(&rt, refusal(alloc, &shape, text), Some(*fault));
     }
     Ok(())
 }
 
 // What the reader says of a text that begins with 4,000 policies and ends with this line.
-fn after_4000(alloc: Global, shape: &Shape, line: &[u8]) -> Result<Option<ScriptError>, OutOfMemory>
-    requires { IsShape shape.now }
-{
+fn after_4000(alloc: Global, line: &[u8]) -> Result<Option<ScriptError>, OutOfMemory> {
     let mut text = Vec::new(alloc);
     for _ in 0..EVENT_LINES {
         text.extend_from_slice(b"balance by 1\nsettle\n")?;
     }
     text.extend_from_slice(line)?;
+    let shape = event_shape(alloc)?;
     if text.len() > PLACED_BYTES {
         return Ok(None);
     }
-    Ok(read_elastic(alloc, shape, text.as_slice()).err())
+    Ok(read(alloc, &shape, text.as_slice()).err())
 }
 
 #[test]
 fn a_policy_is_an_event_line(rt: HostRuntime) -> Result<(), Fail> {
     let alloc = rt.alloc();
-    let shape = event_shape(alloc)?;
     let many = Some(ScriptError::TooMany { line: 8_001 });
-    assert!(rt; after_4000(alloc, &shape, b"settle")?.is_none());
-    assert!(rt; after_4000(alloc, &shape, b"snapshot")? == many);
-    assert!(rt; after_4000(alloc, &shape, b"drain 0 to 0")? == many);
+    assert!(rt; after_4000(alloc, b"settle")?.is_none());
+    is_script_fault(&rt, after_4000(alloc, b"snapshot")?, many);
+    is_script_fault(&rt, after_4000(alloc, b"drain 0 to 0")?, many);
     Ok(())
 }

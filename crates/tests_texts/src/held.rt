@@ -17,22 +17,19 @@ fn sink(alloc: Global, room: usize, most: usize, fails: &[u64]) -> Result<MemSin
 
 // These bytes are taken, and then the sink has those.
 fn takes(rt: &impl Abort, held: &mut HeldBytes, sink: &mut MemSink, bytes: &[u8], has: &[u8]) {
-    assert_eq!(rt; held.write_all(sink, bytes), Ok(()));
+    writes(rt, held, sink, bytes, Ok(()));
     assert_eq!(rt; sink.bytes(), has);
 }
 
-// So many bytes are written, as is said.
-fn writes_many(
+// These bytes are written, as is said.
+fn writes(
     rt: &impl Abort,
-    alloc: Global,
     held: &mut HeldBytes,
     sink: &mut MemSink,
-    count: usize,
+    bytes: &[u8],
     said: Result<(), Failed>,
-) -> Result<(), OutOfMemory> {
-    let bytes = Vec::from_elem(alloc, b'x', count)?;
-    assert_eq!(rt; held.write_all(sink, bytes.as_slice()), said);
-    Ok(())
+) {
+    assert_eq!(rt; held.write_all(sink, bytes), said);
 }
 
 // All that is held goes out, or not, and then the sink has this.
@@ -87,22 +84,63 @@ fn what_a_failing_sink_did_not_take_is_still_held(rt: HostRuntime) -> Result<(),
     Ok(())
 }
 
-#[test]
-fn what_does_not_fit_is_written_behind_what_is_held(rt: HostRuntime) -> Result<(), Fail> {
-    let alloc = rt.alloc();
-    let mut sink = sink(alloc, 4 * HELD_BYTES, HELD_BYTES, &[])?;
-    let mut held = HeldBytes::new(alloc)?;
-    writes_many(&rt, alloc, &mut held, &mut sink, HELD_BYTES, Ok(()))?;
-    assert!(rt; sink.bytes().is_empty());
-    assert_eq!(rt; held.write_all(&mut sink, b"ab"), Ok(()));
+// A piece of so many bytes.
+fn piece(alloc: Global, count: usize) -> Result<Vec<u8>, OutOfMemory> {
+    Ok(Vec::from_elem(alloc, b'x', count)?)
+}
+
+// As many bytes as are held, then two, and then one more than are held.
+fn goes_behind(
+    rt: &impl Abort,
+    held: &mut HeldBytes,
+    sink: &mut MemSink,
+    full: &[u8],
+    larger: &[u8],
+) {
+    takes(rt, held, sink, full, b"");
+    writes(rt, held, sink, b"ab", Ok(()));
     assert_eq!(rt; sink.bytes().len(), HELD_BYTES);
-    writes_many(&rt, alloc, &mut held, &mut sink, HELD_BYTES + 1, Ok(()))?;
+    writes(rt, held, sink, larger, Ok(()));
     let bytes = sink.bytes();
     assert!(rt; bytes.len() == 2 * HELD_BYTES + 3);
     assert_eq!(rt; bytes[HELD_BYTES], b'a');
     assert_eq!(rt; bytes[HELD_BYTES + 2], b'x');
-    assert_eq!(rt; held.flush(&mut sink), Ok(()));
+    assert_eq!(rt; held.flush(sink), Ok(()));
     assert_eq!(rt; sink.bytes().len(), 2 * HELD_BYTES + 3);
+}
+
+#[test]
+fn what_does_not_fit_is_written_behind_what_is_held(rt: HostRuntime) -> Result<(), Fail> {
+    let alloc = rt.alloc();
+    let full = piece(alloc, HELD_BYTES)?;
+    let larger = piece(alloc, HELD_BYTES + 1)?;
+    let mut sink = sink(alloc, 4 * HELD_BYTES, HELD_BYTES, &[])?;
+    let mut held = HeldBytes::new(alloc)?;
+    goes_behind(
+        &rt,
+        &mut held,
+        &mut sink,
+        full.as_slice(),
+        larger.as_slice(),
+    );
+    Ok(())
+}
+
+// These are held, and of them and a piece of so many bytes the sink, which fails, has this front.
+fn takes_a_front(
+    rt: &impl Abort,
+    alloc: Global,
+    held: &mut HeldBytes,
+    fails: &[u64],
+    before: &[u8],
+    count: usize,
+    front: &[u8],
+) -> Result<(), OutOfMemory> {
+    let piece = piece(alloc, count)?;
+    let mut sink = sink(alloc, 9, 4, fails)?;
+    takes(rt, held, &mut sink, before, b"");
+    writes(rt, held, &mut sink, piece.as_slice(), Err(Failed));
+    assert_eq!(rt; sink.bytes(), front);
     Ok(())
 }
 
@@ -110,27 +148,16 @@ fn what_does_not_fit_is_written_behind_what_is_held(rt: HostRuntime) -> Result<(
 fn a_front_of_a_large_piece_is_taken_where_the_sink_fails(rt: HostRuntime) -> Result<(), Fail> {
     let alloc = rt.alloc();
     let mut held = HeldBytes::new(alloc)?;
-    let mut full = sink(alloc, 9, 4, &[])?;
-    takes(&rt, &mut held, &mut full, b"ab", b"");
-    writes_many(
+    let more = HELD_BYTES + 1;
+    takes_a_front(&rt, alloc, &mut held, &[], b"ab", more, b"abxxxxxxx")?;
+    takes_a_front(
         &rt,
         alloc,
         &mut held,
-        &mut full,
-        HELD_BYTES + 1,
-        Err(Failed),
-    )?;
-    assert_eq!(rt; full.bytes(), b"abxxxxxxx".as_slice());
-    let mut second_fails = sink(alloc, 9, 4, &[2])?;
-    takes(&rt, &mut held, &mut second_fails, b"abcdefgh", b"");
-    writes_many(
-        &rt,
-        alloc,
-        &mut held,
-        &mut second_fails,
+        &[2],
+        b"abcdefgh",
         HELD_BYTES,
-        Err(Failed),
+        b"abcd",
     )?;
-    assert_eq!(rt; second_fails.bytes(), b"abcd".as_slice());
     Ok(())
 }

@@ -4,13 +4,23 @@ ghost use Rattle.std.specs.Prelude.{◌≤◌, length};
 ghost use Rattle.wave_base.specs.Names.{HasNames};
 ghost use Rattle.wave_base.specs.Shapes.{IsShape};
 
+use crate::same::is_text;
 use crate::shapes::hall_shape;
 use journal_text::{JournalError, read_journal, write_journal};
 use std::alloc::Global;
 use std::test::Fail;
 use tests_services::{ONE_EVENT, hall, label, mail, one_event};
 use wave_base::{Host, OutOfMemory, Seq, Shape};
-use wave_labels::Act;
+use wave_labels::{Act, Label};
+
+// What the reader says of a text. What it promises is read here and in `again` alone, not in each test.
+fn read(alloc: Global, shape: &Shape, text: &[u8]) -> Result<Seq<Label>, JournalError>
+    requires shape { IsShape shape.now }
+    requires names { HasNames shape.now }
+    requires short { length text.now ≤ 2000 }
+{
+    read_journal(alloc, shape, text)
+}
 
 // The text of what is read of a text.
 fn again(alloc: Global, shape: &Shape, text: &[u8]) -> Result<Seq<u8>, JournalError>
@@ -26,9 +36,9 @@ fn again(alloc: Global, shape: &Shape, text: &[u8]) -> Result<Seq<u8>, JournalEr
 fn reads_one_event(rt: HostRuntime) -> Result<(), Fail> {
     let alloc = rt.alloc();
     let shape = hall_shape(alloc)?;
-    assert!(rt; read_journal(alloc, &shape, ONE_EVENT)?.as_slice() == one_event().as_slice());
-    assert!(rt; again(alloc, &shape, ONE_EVENT)?.as_slice() == ONE_EVENT);
-    assert!(rt; read_journal(alloc, &shape, b"journal 0\n")?.is_empty());
+    assert!(rt; read(alloc, &shape, ONE_EVENT)?.as_slice() == one_event().as_slice());
+    is_text(&rt, again(alloc, &shape, ONE_EVENT)?.as_slice(), ONE_EVENT);
+    assert!(rt; read(alloc, &shape, b"journal 0\n")?.is_empty());
     Ok(())
 }
 
@@ -50,9 +60,9 @@ const BOUNDS: &[u8] = b"journal 11
 fn reads_numbers_at_their_bounds(rt: HostRuntime) -> Result<(), Fail> {
     let alloc = rt.alloc();
     let shape = hall_shape(alloc)?;
-    assert!(rt; again(alloc, &shape, BOUNDS)?.as_slice() == BOUNDS);
+    is_text(&rt, again(alloc, &shape, BOUNDS)?.as_slice(), BOUNDS);
     let passes = label(7, 6, Act::Pass(mail(7, 2), hall(8), Host(255)));
-    assert!(rt; read_journal(alloc, &shape, BOUNDS)?.get(7) == Some(&passes));
+    assert!(rt; read(alloc, &shape, BOUNDS)?.get(7) == Some(&passes));
     Ok(())
 }
 
@@ -62,7 +72,7 @@ fn refused(alloc: Global, shape: &Shape, text: &[u8]) -> Option<u32>
     requires names { HasNames shape.now }
     requires short { length text.now ≤ 2000 }
 {
-    match read_journal(alloc, shape, text) {
+    match read(alloc, shape, text) {
         Err(JournalError::Syntax { line }) => Some(line),
         _ => None,
     }

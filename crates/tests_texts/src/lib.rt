@@ -29,6 +29,8 @@ mod notes;
 #[cfg(test)]
 mod paths;
 #[cfg(test)]
+mod same;
+#[cfg(test)]
 mod scripts;
 #[cfg(test)]
 mod services;

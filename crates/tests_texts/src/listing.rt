@@ -3,6 +3,7 @@
 ghost use Rattle.std.specs.Prelude.{◌≡◌, ◌<◌, length, IfOk};
 ghost use Rattle.service_code.specs.Listing.{CanList};
 
+use crate::same::is_text;
 use service_code::{Function, Instr, Program, code_listing};
 use std::alloc::Global;
 use std::test::Fail;
@@ -54,6 +55,6 @@ fn lists_the_code_of_a_counter(rt: HostRuntime) -> Result<(), Fail> {
     let text = code_listing(alloc, &program)?;
     let due =
         b"function 0 hit args 0 locals 0 stack 2\n0 Field 0 @1:62\n1 PushInt 1 @1:66\n2 Op add @1:62\n3 SetField 0 @1:58\n4 Field 0 @1:77\n5 Reply @1:71\n";
-    assert_eq!(rt; text.as_slice(), due.as_slice());
+    is_text(&rt, text.as_slice(), due);
     Ok(())
 }

@@ -3,8 +3,10 @@
 ghost use Rattle.std.specs.Prelude.{◌≡◌, ◌≤◌, ◌-◌, ◌^◌, length, IfOk};
 ghost use Rattle.wave_base.specs.Text.{IsText};
 
+use crate::same::is_text;
 use listing_out::{ListError, listing, write_end, write_lines, write_listing, write_listing_at};
 use std::alloc::Global;
+use std::process::Abort;
 use std::test::Fail;
 use tests_services::{class, event, hall, number, shot};
 use wave_base::{
@@ -27,15 +29,24 @@ fn two_pairs(alloc: Global) -> Value {
     Value::Map(table)
 }
 
-// A root with a field, and a Hall with two.
-fn classes(alloc: Global) -> Result<Seq<ClassInfo>, OutOfMemory> {
-    let mut classes = Seq::new(alloc);
+// A root with a field.
+fn root_class(alloc: Global) -> Result<ClassInfo, OutOfMemory> {
     let seen = vec![in alloc; number(alloc, b"seen", 0)?]?;
-    classes.add(class(alloc, b"Market", None, seen)?)?;
+    class(alloc, b"Market", None, seen)
+}
+
+// A Hall with two.
+fn hall_class(alloc: Global) -> Result<ClassInfo, OutOfMemory> {
     let mut two = Vec::new(alloc);
     two.push(number(alloc, b"count", 0)?)?;
     two.push(number(alloc, b"tag", 0)?)?;
-    classes.add(class(alloc, b"Hall", Some(Class(0)), two)?)?;
+    class(alloc, b"Hall", Some(Class(0)), two)
+}
+
+fn classes(alloc: Global) -> Result<Seq<ClassInfo>, OutOfMemory> {
+    let mut classes = Seq::new(alloc);
+    classes.add(root_class(alloc)?)?;
+    classes.add(hall_class(alloc)?)?;
     Ok(classes)
 }
 
@@ -164,15 +175,26 @@ place /Hall[1] 1
 done 12
 ";
 
+fn is_written(rt: &impl Abort, written: Result<(), ListError>) {
+    assert!(rt; written == Ok(()));
+}
+
 #[test]
 fn lists_every_kind_of_line(rt: HostRuntime) -> Result<(), Fail> {
     let alloc = rt.alloc();
     let shape = shape(alloc)?;
     let done = finished(alloc, 7)?;
-    assert!(rt; listing(alloc, &shape, Ticket(7), &done, true)?.as_slice() == FROM_7);
+    is_text(
+        &rt,
+        listing(alloc, &shape, Ticket(7), &done, true)?.as_slice(),
+        FROM_7,
+    );
     let mut sink = MemSink::new(alloc, 400, 7, Seq::new(alloc))?;
-    assert!(rt; write_listing_at(alloc, &mut sink, &shape, Ticket(7), &done, true) == Ok(()));
-    assert!(rt; sink.bytes() == FROM_7);
+    is_written(
+        &rt,
+        write_listing_at(alloc, &mut sink, &shape, Ticket(7), &done, true),
+    );
+    is_text(&rt, sink.bytes(), FROM_7);
     Ok(())
 }
 
@@ -193,10 +215,14 @@ fn writes_part_by_part(rt: HostRuntime) -> Result<(), Fail> {
     let mut sink = MemSink::new(alloc, 400, 7, Seq::new(alloc))?;
     let mut part = Seq::new(alloc);
     assert!(rt; part.push(done_by(alloc, Some(0))).is_ok());
-    assert!(rt; write_lines(alloc, &mut sink, &shape, Ticket(1), &part) == Ok(()));
-    assert!(rt; write_lines(alloc, &mut sink, &shape, Ticket(2), &part) == Ok(()));
-    assert!(rt; write_end(alloc, &mut sink, &shape, Some(&places), 2) == Ok(()));
-    assert!(rt; sink.bytes() == b"#1 buy ok\n#2 buy ok\nplace / 0\ndone 2\n".as_slice());
+    is_written(&rt, write_lines(alloc, &mut sink, &shape, Ticket(1), &part));
+    is_written(&rt, write_lines(alloc, &mut sink, &shape, Ticket(2), &part));
+    is_written(&rt, write_end(alloc, &mut sink, &shape, Some(&places), 2));
+    is_text(
+        &rt,
+        sink.bytes(),
+        b"#1 buy ok\n#2 buy ok\nplace / 0\ndone 2\n",
+    );
     Ok(())
 }
 
@@ -219,10 +245,14 @@ fn names_the_ticket_before_the_first(rt: HostRuntime) -> Result<(), Fail> {
     let shape = shape(alloc)?;
     let done = nothing(alloc);
     let none = b"done 6\n".as_slice();
-    assert!(rt; listing(alloc, &shape, Ticket(7), &done, true)?.as_slice() == none);
+    is_text(
+        &rt,
+        listing(alloc, &shape, Ticket(7), &done, true)?.as_slice(),
+        none,
+    );
     let mut sink = MemSink::new(alloc, 400, 7, Seq::new(alloc))?;
-    assert!(rt; write_listing(alloc, &mut sink, &shape, &done, false) == Ok(()));
-    assert!(rt; sink.bytes() == b"done 0\n".as_slice());
+    is_written(&rt, write_listing(alloc, &mut sink, &shape, &done, false));
+    is_text(&rt, sink.bytes(), b"done 0\n");
     Ok(())
 }
 
@@ -234,6 +264,6 @@ fn writes_a_front_where_the_sink_fails(rt: HostRuntime) -> Result<(), Fail> {
     let mut sink = MemSink::new(alloc, 20, 4, Seq::new(alloc))?;
     let ended = write_listing_at(alloc, &mut sink, &shape, Ticket(7), &done, false);
     assert!(rt; ended == Err(ListError::WriteFault));
-    assert!(rt; sink.bytes() == b"#7 buy = {1: 5, 2: 6".as_slice());
+    is_text(&rt, sink.bytes(), b"#7 buy = {1: 5, 2: 6");
     Ok(())
 }

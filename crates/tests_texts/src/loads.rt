@@ -1,6 +1,7 @@
 //! Generated loads, and the sums of runs.
 
 use crate::listings::ended;
+use crate::same::is_text;
 use std::test::Fail;
 use wave_base::{Host, Outcome, Path, Seq, Span, Trap, TrapKind, Value};
 use wave_gen::{generate, summarize};
@@ -55,6 +56,6 @@ fn summary_of_a_run(rt: HostRuntime) -> Result<(), Fail> {
     }
     let text = summarize(alloc, results.as_slice())?;
     let want = b"events 8\nreplies 3\ntraps 1\nmoved 1\nabsent 1\ntotal 18446744073709551614\n";
-    assert_eq!(rt; text.as_slice(), want.as_slice());
+    is_text(&rt, text.as_slice(), want);
     Ok(())
 }

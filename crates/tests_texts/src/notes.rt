@@ -1,5 +1,6 @@
 //! What is told of faults.
 
+use crate::same::is_text;
 use fault_notes::{lex_note, script_note, text_note, type_note};
 use mace_lexer::LexError;
 use mace_parser::ParseError;
@@ -17,7 +18,7 @@ fn tells_of_texts(
     fault: &TextFault,
     note: &[u8],
 ) -> Result<(), OutOfMemory> {
-    assert_eq!(rt; text_note(alloc, fault)?.as_slice(), note);
+    is_text(rt, text_note(alloc, fault)?.as_slice(), note);
     Ok(())
 }
 
@@ -27,7 +28,7 @@ fn tells_of_types(
     fault: &TypeError,
     note: &[u8],
 ) -> Result<(), OutOfMemory> {
-    assert_eq!(rt; type_note(alloc, fault)?.as_slice(), note);
+    is_text(rt, type_note(alloc, fault)?.as_slice(), note);
     Ok(())
 }
 
@@ -37,10 +38,7 @@ fn tells_number_name_and_place(rt: HostRuntime) -> Result<(), Fail> {
     let at = Span { line: 8, col: 23 };
     let stuck = ParseError::Expected { token: 9, at };
     let open = LexError::OpenText(at);
-    assert_eq!(rt;
-        lex_note(alloc, &open)?.as_slice(),
-        b"L3 OpenText 8:23".as_slice()
-    );
+    is_text(&rt, lex_note(alloc, &open)?.as_slice(), b"L3 OpenText 8:23");
     tells_of_texts(&rt, alloc, &TextFault::Parse(stuck), b"P1 Expected 8:23")?;
     tells_of_texts(&rt, alloc, &TextFault::TooLarge, b"TooLarge service")?;
     tells_of_types(
@@ -62,9 +60,10 @@ fn tells_number_name_and_place(rt: HostRuntime) -> Result<(), Fail> {
         b"Y10 Unreachable 8:23",
     )?;
     let count = ScriptError::ArgCount { line: 12 };
-    assert_eq!(rt;
+    is_text(
+        &rt,
         script_note(alloc, &count)?.as_slice(),
-        b"S3 ArgCount line 12".as_slice()
+        b"S3 ArgCount line 12",
     );
     Ok(())
 }

@@ -1,11 +1,29 @@
 //! Paths are written, read and looked up.
 
+ghost use Rattle.wave_base.specs.Shapes.{IsShape};
+
+use crate::same::is_text;
 use crate::shapes::hall_shape;
 use path_text::{
     ClassNames, PathError, parse_path, put_shot, resolve_steps, write_path, written_steps,
 };
+use std::alloc::Global;
+use std::process::Abort;
 use std::test::Fail;
-use wave_base::{Class, Path, Seq, Shot, Step};
+use wave_base::{Class, Path, Seq, Shape, Shot, Step};
+
+// A text is this path, or has this fault.
+fn parses(
+    rt: &impl Abort,
+    alloc: Global,
+    shape: &Shape,
+    text: &[u8],
+    wanted: Result<Path, PathError>,
+)
+    requires { IsShape shape.now }
+{
+    assert!(rt; parse_path(alloc, shape, text) == wanted);
+}
 
 #[test]
 fn reads_what_it_writes(rt: HostRuntime) -> Result<(), Fail> {
@@ -16,11 +34,17 @@ fn reads_what_it_writes(rt: HostRuntime) -> Result<(), Fail> {
         key: -7,
     });
     let text = write_path(alloc, &shape, &hall)?;
-    assert!(rt; text.as_slice() == b"/Hall[-7]".as_slice());
-    assert!(rt; parse_path(alloc, &shape, b"/Hall[-007]") == Ok(hall));
-    assert!(rt; parse_path(alloc, &shape, b"/") == Ok(Path::root()));
-    assert!(rt; parse_path(alloc, &shape, b"/Hall[]") == Err(PathError::Syntax));
-    assert!(rt; parse_path(alloc, &shape, b"/Market[1]") == Err(PathError::UnknownClass));
+    is_text(&rt, text.as_slice(), b"/Hall[-7]");
+    parses(&rt, alloc, &shape, b"/Hall[-007]", Ok(hall));
+    parses(&rt, alloc, &shape, b"/", Ok(Path::root()));
+    parses(&rt, alloc, &shape, b"/Hall[]", Err(PathError::Syntax));
+    parses(
+        &rt,
+        alloc,
+        &shape,
+        b"/Market[1]",
+        Err(PathError::UnknownClass),
+    );
     Ok(())
 }
 
@@ -34,7 +58,7 @@ fn writes_a_context(rt: HostRuntime) -> Result<(), Fail> {
     };
     let mut out = Vec::new(alloc);
     put_shot(alloc, &mut out, &shape, &shot)?;
-    assert!(rt; out.as_slice() == b"at /".as_slice());
+    is_text(&rt, out.as_slice(), b"at /");
     Ok(())
 }
 

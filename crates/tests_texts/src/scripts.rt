@@ -2,10 +2,13 @@
 
 ghost use Rattle.std.specs.Prelude.{◌≤◌, length, IfOk};
 ghost use Rattle.wave_base.specs.Shapes.{IsShape};
+ghost use Rattle.wave_base.specs.declared.limits.TheConstants.{PLACED_BYTES};
 
+use crate::same::is_script_fault;
 use crate::shapes::{event_shape, shape_with};
 use script_reader::{ScriptError, read_script, read_script_at};
 use std::alloc::Global;
+use std::process::Abort;
 use std::test::Fail;
 use tests_services::{event, hall};
 use wave_base::{
@@ -42,6 +45,14 @@ fn second_batch(alloc: Global) -> Result<Seq<Line>, OutOfMemory> {
     Ok(Seq::from_vec(vec![in alloc; away, Line::Snapshot, home]?))
 }
 
+// What the reader says of a text. What it promises is read here alone, not in each test.
+pub(crate) fn read(alloc: Global, shape: &Shape, text: &[u8]) -> Result<Script, ScriptError>
+    requires shape { IsShape shape.now }
+    requires short { length text.now ≤ PLACED_BYTES }
+{
+    read_script(alloc, shape, text)
+}
+
 fn wanted(alloc: Global) -> Result<Script, OutOfMemory> {
     let mut batches = Seq::new(alloc);
     batches.add(first_batch(alloc)?)?;
@@ -53,8 +64,9 @@ fn wanted(alloc: Global) -> Result<Script, OutOfMemory> {
 fn reads_every_form(rt: HostRuntime) -> Result<(), Fail> {
     let alloc = rt.alloc();
     let shape = event_shape(alloc)?;
-    assert!(rt; read_script(alloc, &shape, TEXT) == Ok(wanted(alloc)?));
-    let empty = read_script(alloc, &shape, b"")?;
+    let wanted = wanted(alloc)?;
+    assert!(rt; read(alloc, &shape, TEXT)? == wanted);
+    let empty = read(alloc, &shape, b"")?;
     assert_eq!(rt; empty.hosts, 1);
     assert!(rt; empty.batches.is_empty());
     Ok(())
@@ -64,7 +76,7 @@ fn refusal(alloc: Global, shape: &Shape, text: &[u8]) -> Option<ScriptError>
     requires shape { IsShape shape.now }
     requires short { length text.now ≤ 1000 }
 {
-    read_script(alloc, shape, text).err()
+    read(alloc, shape, text).err()
 }
 
 // Texts, each with the fault that is told of it.
@@ -99,14 +111,23 @@ const FAULTS: [(&[u8], ScriptError); 10] = [
     ),
 ];
 
+// Each of these faults is told of its text.
+fn are_told(
+    rt: &impl Abort,
+    alloc: Global,
+    faults: &[(&[u8], ScriptError)],
+) -> Result<(), OutOfMemory> {
+    let shape = event_shape(alloc)?;
+    for (text, fault) in faults {
+        assert!(rt; text.len() <= 1000);
+        is_script_fault(rt, refusal(alloc, &shape, text), Some(*fault));
+    }
+    Ok(())
+}
+
 #[test]
 fn refuses_each_fault_with_its_line(rt: HostRuntime) -> Result<(), Fail> {
-    let alloc = rt.alloc();
-    let shape = event_shape(alloc)?;
-    for (text, fault) in &FAULTS {
-        assert!(rt; text.len() <= 1000);
-        assert_eq!(rt; refusal(alloc, &shape, text), Some(*fault));
-    }
+    are_told(&rt, rt.alloc(), &FAULTS)?;
     Ok(())
 }
 
@@ -127,64 +148,57 @@ const HOST_FAULTS: [(&[u8], ScriptError); 5] = [
 
 #[test]
 fn refuses_hosts_with_its_line(rt: HostRuntime) -> Result<(), Fail> {
-    let alloc = rt.alloc();
-    let shape = event_shape(alloc)?;
-    for (text, fault) in &HOST_FAULTS {
-        assert!(rt; text.len() <= 1000);
-        assert_eq!(rt; refusal(alloc, &shape, text), Some(*fault));
-    }
+    are_told(&rt, rt.alloc(), &HOST_FAULTS)?;
     Ok(())
 }
 
+// What the reader says of a text that a script may have.
+fn fault_of(alloc: Global, text: &[u8]) -> Result<Option<ScriptError>, OutOfMemory> {
+    let shape = event_shape(alloc)?;
+    if text.len() > PLACED_BYTES {
+        return Ok(None);
+    }
+    Ok(read(alloc, &shape, text).err())
+}
+
 // What the reader says of a text that begins with 4,000 event lines and ends with this line.
-fn after_4000(alloc: Global, shape: &Shape, line: &[u8]) -> Result<Option<ScriptError>, OutOfMemory>
-    requires { IsShape shape.now }
-{
+fn after_4000(alloc: Global, line: &[u8]) -> Result<Option<ScriptError>, OutOfMemory> {
     let mut text = Vec::new(alloc);
     for _ in 0..4000 {
         text.extend_from_slice(b"snapshot\n")?;
     }
     text.extend_from_slice(line)?;
-    if text.len() > PLACED_BYTES {
-        return Ok(None);
-    }
-    Ok(read_script(alloc, shape, text.as_slice()).err())
+    fault_of(alloc, text.as_slice())
 }
 
 #[test]
 fn refuses_the_line_past_4000(rt: HostRuntime) -> Result<(), Fail> {
     let alloc = rt.alloc();
-    let shape = event_shape(alloc)?;
     let many = Some(ScriptError::TooMany { line: 4001 });
-    assert!(rt; after_4000(alloc, &shape, b"settle")?.is_none());
-    assert!(rt; after_4000(alloc, &shape, b"snapshot")? == many);
-    assert!(rt; after_4000(alloc, &shape, b"request nobody(1)")? == many);
+    assert!(rt; after_4000(alloc, b"settle")?.is_none());
+    is_script_fault(&rt, after_4000(alloc, b"snapshot")?, many);
+    is_script_fault(&rt, after_4000(alloc, b"request nobody(1)")?, many);
     let unknown = Some(ScriptError::UnknownCommand { line: 4001 });
-    assert!(rt; after_4000(alloc, &shape, b"snapshots")? == unknown);
+    is_script_fault(&rt, after_4000(alloc, b"snapshots")?, unknown);
     Ok(())
 }
 
 // A request with a text of so many bytes.
-fn with_text(alloc: Global, shape: &Shape, len: usize) -> Result<Option<ScriptError>, OutOfMemory>
-    requires { IsShape shape.now }
-{
+fn with_text(alloc: Global, len: usize) -> Result<Option<ScriptError>, OutOfMemory> {
     let mut text = Vec::from_slice(alloc, b"request put(1,\"")?;
     for _ in 0..len {
         text.push(b'a')?;
     }
     text.extend_from_slice(b"\",false)")?;
-    if text.len() > PLACED_BYTES {
-        return Ok(None);
-    }
-    Ok(read_script(alloc, shape, text.as_slice()).err())
+    fault_of(alloc, text.as_slice())
 }
 
 #[test]
 fn refuses_a_text_past_200_bytes(rt: HostRuntime) -> Result<(), Fail> {
     let alloc = rt.alloc();
-    let shape = event_shape(alloc)?;
-    assert!(rt; with_text(alloc, &shape, 200)?.is_none());
-    assert!(rt; with_text(alloc, &shape, 201)? == Some(ScriptError::ArgType { line: 1 }));
+    assert!(rt; with_text(alloc, 200)?.is_none());
+    let kind = Some(ScriptError::ArgType { line: 1 });
+    is_script_fault(&rt, with_text(alloc, 201)?, kind);
     Ok(())
 }
 
@@ -195,11 +209,17 @@ fn reads_a_text_past_what_an_input_may_have(rt: HostRuntime) -> Result<(), Fail>
     let mut text = vec![in alloc; b' '; 1_048_577]?;
     text.extend_from_slice(b"\nsnapshot")?;
     assert!(rt; text.len() <= PLACED_BYTES);
-    assert_eq!(rt;
-        read_script(alloc, &shape, text.as_slice())?.batches.len(),
-        1
-    );
+    assert_eq!(rt; read(alloc, &shape, text.as_slice())?.batches.len(), 1);
     Ok(())
+}
+
+// The same of a text behind a script for three hosts with so many event lines.
+fn read_after(alloc: Global, shape: &Shape, lines: u32, text: &[u8]) -> Result<Script, ScriptError>
+    requires shape { IsShape shape.now }
+    requires short { length text.now ≤ 1000 }
+    requires few_lines { lines ≤ 4000 }
+{
+    read_script_at(alloc, shape, text, 3, lines)
 }
 
 #[test]
@@ -207,13 +227,13 @@ fn goes_on_after_a_script(rt: HostRuntime) -> Result<(), Fail> {
     let alloc = rt.alloc();
     let shape = event_shape(alloc)?;
     let text = b"move / to 2\nsnapshot";
-    let script = read_script_at(alloc, &shape, text, 3, 3998)?;
+    let script = read_after(alloc, &shape, 3998, text)?;
     assert_eq!(rt; script.hosts, 3);
     assert_eq!(rt; script.batches.len(), 1);
-    let many = Err(ScriptError::TooMany { line: 2 });
-    assert!(rt; read_script_at(alloc, &shape, text, 3, 3999) == many);
-    let late = Err(ScriptError::HostsLate { line: 1 });
-    assert!(rt; read_script_at(alloc, &shape, b"hosts 3", 3, 0) == late);
+    let many = Some(ScriptError::TooMany { line: 2 });
+    is_script_fault(&rt, read_after(alloc, &shape, 3999, text).err(), many);
+    let late = Some(ScriptError::HostsLate { line: 1 });
+    is_script_fault(&rt, read_after(alloc, &shape, 0, b"hosts 3").err(), late);
     Ok(())
 }
 
@@ -232,10 +252,18 @@ fn the_first_event_of_a_name_is_called(rt: HostRuntime) -> Result<(), Fail> {
     let shape = namesakes(alloc)?;
     assert!(rt; refusal(alloc, &shape, b"request look(1)").is_none());
     let count = Some(ScriptError::ArgCount { line: 1 });
-    assert!(rt; refusal(alloc, &shape, b"request look()") == count);
+    is_script_fault(&rt, refusal(alloc, &shape, b"request look()"), count);
     let event = Some(ScriptError::UnknownEvent { line: 2 });
-    assert!(rt; refusal(alloc, &shape, b"request look(1)\nrequest looks(1)") == event);
-    assert!(rt; refusal(alloc, &shape, b"request look(1)\nrequest loo(1)") == event);
+    is_script_fault(
+        &rt,
+        refusal(alloc, &shape, b"request look(1)\nrequest looks(1)"),
+        event,
+    );
+    is_script_fault(
+        &rt,
+        refusal(alloc, &shape, b"request look(1)\nrequest loo(1)"),
+        event,
+    );
     Ok(())
 }
 
@@ -245,7 +273,11 @@ fn classes_are_found_in_their_parents(rt: HostRuntime) -> Result<(), Fail> {
     let shape = event_shape(alloc)?;
     assert!(rt; refusal(alloc, &shape, b"move /Hall[1] to 0").is_none());
     let path = Some(ScriptError::BadPath { line: 1 });
-    assert!(rt; refusal(alloc, &shape, b"move /Hall[1]/Hall[1] to 0") == path);
-    assert!(rt; refusal(alloc, &shape, b"move /Halls[1] to 0") == path);
+    is_script_fault(
+        &rt,
+        refusal(alloc, &shape, b"move /Hall[1]/Hall[1] to 0"),
+        path,
+    );
+    is_script_fault(&rt, refusal(alloc, &shape, b"move /Halls[1] to 0"), path);
     Ok(())
 }

@@ -94,18 +94,25 @@ fn cell_class(alloc: Global) -> Result<ClassInfo, OutOfMemory>
 }
 
 // A root with a number, a Hall in it with a number, a Stall in that with one of each other kind, and a Cell with none.
-pub(crate) fn market_shape(alloc: Global) -> Result<Shape, OutOfMemory>
-    ensures same { IfOk result (λ s. s ≡ sample.market_shape) }
-    ensures shape { IfOk result IsShape }
-    ensures names { IfOk result HasNames }
+fn market_classes(alloc: Global) -> Result<Seq<ClassInfo>, OutOfMemory>
+    ensures { IfOk result (λ cs. cs ≡ sample.market_class ∷ sample.hall_class ∷ sample.stall_class ∷ sample.cell_class ∷ []) }
 {
     let mut classes = Vec::new(alloc);
     classes.push(market_class(alloc)?)?;
     classes.push(hall_class(alloc)?)?;
     classes.push(stall_class(alloc)?)?;
     classes.push(cell_class(alloc)?)?;
+    Ok(Seq::from_vec(classes))
+}
+
+// The four, without an event.
+pub(crate) fn market_shape(alloc: Global) -> Result<Shape, OutOfMemory>
+    ensures same { IfOk result (λ s. s ≡ sample.market_shape) }
+    ensures shape { IfOk result IsShape }
+    ensures names { IfOk result HasNames }
+{
     Ok(Shape {
-        classes: Seq::from_vec(classes),
+        classes: market_classes(alloc)?,
         events: Seq::new(alloc),
     })
 }

@@ -4,9 +4,11 @@ ghost use Rattle.std.specs.Prelude.{◌≤◌, length};
 ghost use Rattle.wave_base.specs.Names.{HasNames};
 ghost use Rattle.wave_base.specs.Shapes.{IsShape};
 
+use crate::same::{is_shot_fault, is_text};
 use crate::shapes::market_shape;
 use snapshot_text::{ShotError, read_snapshot, write_snapshot};
 use std::alloc::Global;
+use std::process::Abort;
 use std::test::Fail;
 use tests_services::stall;
 use wave_base::{OutOfMemory, Seq, Shape, Shot, Table, Txt, Value};
@@ -24,6 +26,15 @@ at /Cell[-7]
 at /Cell[7]
 ";
 
+// What the reader says of a text. What it promises is read here and in `again` alone, not in each test.
+fn read(alloc: Global, shape: &Shape, text: &[u8]) -> Result<Seq<Shot>, ShotError>
+    requires shape { IsShape shape.now }
+    requires names { HasNames shape.now }
+    requires short { length text.now ≤ 100000 }
+{
+    read_snapshot(alloc, shape, text)
+}
+
 // The text of what is read of a text.
 fn again(alloc: Global, shape: &Shape, text: &[u8]) -> Result<Seq<u8>, ShotError>
     requires shape { IsShape shape.now }
@@ -38,9 +49,9 @@ fn again(alloc: Global, shape: &Shape, text: &[u8]) -> Result<Seq<u8>, ShotError
 fn reads_what_it_writes(rt: HostRuntime) -> Result<(), Fail> {
     let alloc = rt.alloc();
     let shape = market_shape(alloc)?;
-    assert!(rt; again(alloc, &shape, WHOLE)?.as_slice() == WHOLE);
+    is_text(&rt, again(alloc, &shape, WHOLE)?.as_slice(), WHOLE);
     let root = b"snapshot 1\nat / seen=0\n".as_slice();
-    assert!(rt; again(alloc, &shape, root)?.as_slice() == root);
+    is_text(&rt, again(alloc, &shape, root)?.as_slice(), root);
     Ok(())
 }
 
@@ -58,7 +69,7 @@ fn reads_each_kind(rt: HostRuntime) -> Result<(), Fail> {
     let alloc = rt.alloc();
     let shape = market_shape(alloc)?;
     let first = first_stall(alloc)?;
-    assert!(rt; read_snapshot(alloc, &shape, WHOLE)?.get(3) == Some(&first));
+    assert!(rt; read(alloc, &shape, WHOLE)?.get(3) == Some(&first));
     Ok(())
 }
 
@@ -70,7 +81,7 @@ fn refused(alloc: Global, shape: &Shape, text: &[u8]) -> Option<ShotError>
     if text.len() > ENOUGH {
         return None;
     }
-    read_snapshot(alloc, shape, text).err()
+    read(alloc, shape, text).err()
 }
 
 // Texts that are refused at their first line.
@@ -87,13 +98,18 @@ const HEADS: [&[u8]; 6] = [
 fn refuses_heads(rt: HostRuntime) -> Result<(), Fail> {
     let alloc = rt.alloc();
     let shape = market_shape(alloc)?;
+    let first = Some(ShotError::Syntax { line: 1 });
     for text in &HEADS {
-        assert!(rt; refused(alloc, &shape, text) == Some(ShotError::Syntax { line: 1 }));
+        is_shot_fault(&rt, refused(alloc, &shape, text), first);
     }
     let none = Some(ShotError::Order { line: 1 });
-    assert!(rt; refused(alloc, &shape, b"snapshot 0\n") == none);
+    is_shot_fault(&rt, refused(alloc, &shape, b"snapshot 0\n"), none);
     let open = Some(ShotError::Syntax { line: 2 });
-    assert!(rt; refused(alloc, &shape, b"snapshot 1\nat / seen=0") == open);
+    is_shot_fault(
+        &rt,
+        refused(alloc, &shape, b"snapshot 1\nat / seen=0"),
+        open,
+    );
     Ok(())
 }
 
@@ -106,6 +122,16 @@ fn behind_root(alloc: Global, shape: &Shape, line: &[u8]) -> Result<Option<ShotE
     text.extend_from_slice(line)?;
     text.push(b'\n')?;
     Ok(refused(alloc, shape, text.as_slice()))
+}
+
+// This is said of each of these lines, behind a root.
+fn all_are(rt: &impl Abort, alloc: Global, lines: &[&[u8]], said: ShotError) -> Result<(), Fail> {
+    let shape = market_shape(alloc)?;
+    let said = Some(said);
+    for line in lines {
+        is_shot_fault(rt, behind_root(alloc, &shape, line)?, said);
+    }
+    Ok(())
 }
 
 // Lines that have not the form.
@@ -140,13 +166,7 @@ const BAD_FORMS: [&[u8]; 26] = [
 
 #[test]
 fn refuses_bad_forms(rt: HostRuntime) -> Result<(), Fail> {
-    let alloc = rt.alloc();
-    let shape = market_shape(alloc)?;
-    for line in &BAD_FORMS {
-        let said = behind_root(alloc, &shape, line)?;
-        assert!(rt; said == Some(ShotError::Syntax { line: 3 }));
-    }
-    Ok(())
+    all_are(&rt, rt.alloc(), &BAD_FORMS, ShotError::Syntax { line: 3 })
 }
 
 // Lines whose keys are not in order.
@@ -162,13 +182,8 @@ const KEYS_OUT_OF_ORDER: [&[u8]; 7] = [
 
 #[test]
 fn refuses_keys_out_of_order(rt: HostRuntime) -> Result<(), Fail> {
-    let alloc = rt.alloc();
-    let shape = market_shape(alloc)?;
-    for line in &KEYS_OUT_OF_ORDER {
-        let said = behind_root(alloc, &shape, line)?;
-        assert!(rt; said == Some(ShotError::Syntax { line: 3 }));
-    }
-    Ok(())
+    let error = ShotError::Syntax { line: 3 };
+    all_are(&rt, rt.alloc(), &KEYS_OUT_OF_ORDER, error)
 }
 
 // Lines of contexts that the service has not.
@@ -182,13 +197,7 @@ const OTHER_PATHS: [&[u8]; 5] = [
 
 #[test]
 fn refuses_other_paths(rt: HostRuntime) -> Result<(), Fail> {
-    let alloc = rt.alloc();
-    let shape = market_shape(alloc)?;
-    for line in &OTHER_PATHS {
-        let said = behind_root(alloc, &shape, line)?;
-        assert!(rt; said == Some(ShotError::Class { line: 3 }));
-    }
-    Ok(())
+    all_are(&rt, rt.alloc(), &OTHER_PATHS, ShotError::Class { line: 3 })
 }
 
 // Lines with fields that their contexts have not.
@@ -209,13 +218,7 @@ const OTHER_FIELDS: [&[u8]; 12] = [
 
 #[test]
 fn refuses_other_fields(rt: HostRuntime) -> Result<(), Fail> {
-    let alloc = rt.alloc();
-    let shape = market_shape(alloc)?;
-    for line in &OTHER_FIELDS {
-        let said = behind_root(alloc, &shape, line)?;
-        assert!(rt; said == Some(ShotError::Field { line: 3 }));
-    }
-    Ok(())
+    all_are(&rt, rt.alloc(), &OTHER_FIELDS, ShotError::Field { line: 3 })
 }
 
 // Lines that may not stand behind the root.
@@ -226,19 +229,23 @@ const OUT_OF_ORDER: [&[u8]; 2] = [
 
 #[test]
 fn refuses_paths_out_of_order(rt: HostRuntime) -> Result<(), Fail> {
+    all_are(&rt, rt.alloc(), &OUT_OF_ORDER, ShotError::Order { line: 3 })
+}
+
+#[test]
+fn refuses_texts_out_of_order(rt: HostRuntime) -> Result<(), Fail> {
     let alloc = rt.alloc();
     let shape = market_shape(alloc)?;
-    for line in &OUT_OF_ORDER {
-        let said = behind_root(alloc, &shape, line)?;
-        assert!(rt; said == Some(ShotError::Order { line: 3 }));
-    }
     let child = b"snapshot 1\nat /Hall[1] count=0\n".as_slice();
-    assert!(rt; refused(alloc, &shape, child) == Some(ShotError::Order { line: 2 }));
+    let order = Some(ShotError::Order { line: 2 });
+    is_shot_fault(&rt, refused(alloc, &shape, child), order);
     let late = b"snapshot 3\nat / seen=0\nat /Cell[2]\nat /Cell[1]\n".as_slice();
-    assert!(rt; refused(alloc, &shape, late) == Some(ShotError::Order { line: 4 }));
+    let order = Some(ShotError::Order { line: 4 });
+    is_shot_fault(&rt, refused(alloc, &shape, late), order);
     let parent =
         b"snapshot 3\nat / seen=0\nat /Hall[2]/Stall[1] open=true label=\"\" best={}\nat /Hall[2] count=0\n".as_slice();
-    assert!(rt; refused(alloc, &shape, parent) == Some(ShotError::Order { line: 3 }));
+    let order = Some(ShotError::Order { line: 3 });
+    is_shot_fault(&rt, refused(alloc, &shape, parent), order);
     Ok(())
 }
 
@@ -253,15 +260,7 @@ fn add_pairs(alloc: Global, text: &mut Vec<u8>, pairs: usize) -> Result<(), Fail
 }
 
 // What is said of a Stall with a label of so many bytes, and so many pairs.
-fn sized(
-    alloc: Global,
-    shape: &Shape,
-    bytes: usize,
-    pairs: usize,
-) -> Result<Option<ShotError>, Fail>
-    requires shape { IsShape shape.now }
-    requires names { HasNames shape.now }
-{
+fn sized(alloc: Global, bytes: usize, pairs: usize) -> Result<Option<ShotError>, Fail> {
     let mut text = Vec::from_slice(alloc, b"snapshot 3\nat / seen=0\nat /Hall[1] count=0\n")?;
     text.extend_from_slice(b"at /Hall[1]/Stall[1] open=true label=\"")?;
     for _ in 0..bytes {
@@ -270,16 +269,16 @@ fn sized(
     text.extend_from_slice(b"\" best={")?;
     add_pairs(alloc, &mut text, pairs)?;
     text.extend_from_slice(b"}\n")?;
-    Ok(refused(alloc, shape, text.as_slice()))
+    let shape = market_shape(alloc)?;
+    Ok(refused(alloc, &shape, text.as_slice()))
 }
 
 #[test]
 fn knows_the_limits_of_values(rt: HostRuntime) -> Result<(), Fail> {
     let alloc = rt.alloc();
-    let shape = market_shape(alloc)?;
     let field = Some(ShotError::Field { line: 4 });
-    assert!(rt; sized(alloc, &shape, 1000, 1000)?.is_none());
-    assert!(rt; sized(alloc, &shape, 1001, 0)? == field);
-    assert!(rt; sized(alloc, &shape, 0, 1001)? == field);
+    assert!(rt; sized(alloc, 1000, 1000)?.is_none());
+    is_shot_fault(&rt, sized(alloc, 1001, 0)?, field);
+    is_shot_fault(&rt, sized(alloc, 0, 1001)?, field);
     Ok(())
 }

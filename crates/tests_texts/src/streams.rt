@@ -12,38 +12,56 @@ use wave_io::{
     SureSink, SureSource, read_all, write_all,
 };
 
+// These bytes were read, or this fault is told. What was read is compared here alone, not in each test.
+fn is_read(
+    rt: &impl Abort,
+    read: Result<Seq<u8>, ReadError>,
+    wanted: Result<(), ReadError>,
+    bytes: &[u8],
+) {
+    match read {
+        Ok(read) => {
+            assert_eq!(rt; wanted, Ok(()));
+            assert_eq!(rt; read.as_slice(), bytes);
+        }
+        Err(error) => assert_eq!(rt; wanted, Err(error)),
+    }
+}
+
 // What is read of `hello`, where so many bytes come at a time and these reads fail.
-fn read_in_pieces(
+fn reads_in_pieces(
+    rt: &impl Abort,
     alloc: Global,
     most: usize,
     fails: &[u64],
     limit: usize,
-) -> Result<Result<Seq<u8>, ReadError>, OutOfMemory>
+    wanted: Result<(), ReadError>,
+) -> Result<(), OutOfMemory>
     requires { 0 < most }
 {
     let bytes = Seq::from_slice(alloc, b"hello")?;
     let mut source = MemSource::new(bytes, most, Seq::from_slice(alloc, fails)?);
-    Ok(read_all(alloc, &mut source, limit))
+    is_read(rt, read_all(alloc, &mut source, limit), wanted, b"hello");
+    Ok(())
 }
 
 #[test]
 fn reads_to_the_end_in_small_pieces(rt: HostRuntime) -> Result<(), Fail> {
     let alloc = rt.alloc();
-    let hello = b"hello".as_slice();
-    assert_eq!(rt; read_in_pieces(alloc, 2, &[], 5)??.as_slice(), hello);
-    let mut sure = SureSource::new(Seq::from_slice(alloc, hello)?);
-    assert_eq!(rt; read_all(alloc, &mut sure, 9)?.as_slice(), hello);
+    reads_in_pieces(&rt, alloc, 2, &[], 5, Ok(()))?;
+    let mut sure = SureSource::new(Seq::from_slice(alloc, b"hello")?);
+    is_read(&rt, read_all(alloc, &mut sure, 9), Ok(()), b"hello");
     let mut none: &[u8] = b"";
     let mut real = StdSource::new(&mut none);
-    assert!(rt; read_all(alloc, &mut real, 9)?.is_empty());
+    is_read(&rt, read_all(alloc, &mut real, 9), Ok(()), b"");
     Ok(())
 }
 
 #[test]
 fn says_why_it_stopped(rt: HostRuntime) -> Result<(), Fail> {
     let alloc = rt.alloc();
-    assert!(rt; read_in_pieces(alloc, 2, &[3], 9)? == Err(ReadError::ReadFault));
-    assert!(rt; read_in_pieces(alloc, 2, &[], 4)? == Err(ReadError::TooLarge));
+    reads_in_pieces(&rt, alloc, 2, &[3], 9, Err(ReadError::ReadFault))?;
+    reads_in_pieces(&rt, alloc, 2, &[], 4, Err(ReadError::TooLarge))?;
     Ok(())
 }
 
@@ -198,13 +216,7 @@ impl<'t> Write for Narrow<'t> {
 fn reads(rt: &impl Abort, alloc: Global, turns: &[Turn], wanted: Result<(), ReadError>) {
     let left = b"hello".as_slice();
     let mut source = StdSource::new(Choppy { left, turns });
-    match read_all(alloc, &mut source, 5) {
-        Ok(read) => {
-            assert_eq!(rt; wanted, Ok(()));
-            assert_eq!(rt; read.as_slice(), left);
-        }
-        Err(error) => assert_eq!(rt; wanted, Err(error)),
-    }
+    is_read(rt, read_all(alloc, &mut source, 5), wanted, left);
 }
 
 #[test]

@@ -56,9 +56,9 @@ fn tables(alloc: Global) -> Result<Tables, Fail> {
 #[test]
 fn classes_and_events_have_the_numbers_of_their_places(rt: HostRuntime) -> Result<(), Fail> {
     let alloc = rt.alloc();
-    let tables = tables(alloc)?;
     let b = Txt::from_bytes(alloc, b"B")?;
     let e = Txt::from_bytes(alloc, b"e")?;
+    let tables = tables(alloc)?;
     assert_eq!(rt; tables.class(&b), Some(2));
     assert_eq!(rt; tables.class(&e), None);
     assert_eq!(rt; tables.event(&e), Some(0));
@@ -68,9 +68,9 @@ fn classes_and_events_have_the_numbers_of_their_places(rt: HostRuntime) -> Resul
 #[test]
 fn methods_and_fields_belong_to_their_classes(rt: HostRuntime) -> Result<(), Fail> {
     let alloc = rt.alloc();
-    let tables = tables(alloc)?;
     let m = Txt::from_bytes(alloc, b"m")?;
     let r = Txt::from_bytes(alloc, b"r")?;
+    let tables = tables(alloc)?;
     assert_eq!(rt; tables.method(2, &m), Some(0));
     assert_eq!(rt; tables.method(0, &m), None);
     assert!(rt; matches!(tables.field(0, &r), Some((0, Kind::Int))));
@@ -80,6 +80,7 @@ fn methods_and_fields_belong_to_their_classes(rt: HostRuntime) -> Result<(), Fai
 
 #[test]
 fn classes_know_those_above_them(rt: HostRuntime) -> Result<(), Fail> {
+    let num = Txt::from_bytes(rt.alloc(), b"num")?;
     let tables = tables(rt.alloc())?;
     assert_eq!(rt; tables.level(2, 1), Some(1));
     assert_eq!(rt; tables.level(2, 2), None);
@@ -89,7 +90,6 @@ fn classes_know_those_above_them(rt: HostRuntime) -> Result<(), Fail> {
     if tables.method_count() > 0 {
         assert_eq!(rt; tables.signature(0).class, 2);
     }
-    let num = Txt::from_bytes(rt.alloc(), b"num")?;
     assert_eq!(rt; tables.builtin(&num), None);
     assert_eq!(rt; tables.operators().builtin_2(b"num"), Some(33));
     assert_eq!(rt; tables.into_shape().classes.as_slice().len(), 3);
@@ -124,14 +124,20 @@ fn rows_take_kinds(rt: HostRuntime) -> Result<(), Fail> {
     Ok(())
 }
 
+// Names with these numbers, each noted behind the one before it.
+fn noted_names(alloc: Global, rows: &[(&[u8], u16)]) -> Result<Names, OutOfMemory> {
+    let mut names = Names::new(alloc);
+    for (name, number) in rows {
+        names.note(alloc, name, *number)?;
+    }
+    Ok(names)
+}
+
 #[test]
 fn the_first_number_of_a_name_counts(rt: HostRuntime) -> Result<(), Fail> {
-    let alloc = rt.alloc();
-    let mut names = Names::new(alloc);
-    assert_eq!(rt; names.first(b"a"), None);
-    names.note(alloc, b"a", 7)?;
-    names.note(alloc, b"b", 8)?;
-    names.note(alloc, b"a", 9)?;
+    let none = noted_names(rt.alloc(), &[])?;
+    assert_eq!(rt; none.first(b"a"), None);
+    let names = noted_names(rt.alloc(), &[(b"a", 7), (b"b", 8), (b"a", 9)])?;
     assert_eq!(rt; names.first(b"a"), Some(7));
     assert_eq!(rt; names.first(b"b"), Some(8));
     assert_eq!(rt; names.first(b"ab"), None);

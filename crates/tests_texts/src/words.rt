@@ -1,5 +1,6 @@
 //! Words, lines, quoted texts and values in any text.
 
+use crate::same::is_text;
 use std::alloc::Global;
 use std::test::Fail;
 use wave_base::{OutOfMemory, Span, Table, Txt, Value};
@@ -50,16 +51,27 @@ fn one_pair(alloc: Global) -> Table {
     table
 }
 
+fn put_numbers(alloc: Global, out: &mut Vec<u8>) -> Result<(), OutOfMemory> {
+    put_bytes(out, b"#")?;
+    put_number(alloc, out, 7)?;
+    put_bytes(out, b" ")?;
+    put_whole(alloc, out, i64::MIN)
+}
+
+fn put_values(alloc: Global, out: &mut Vec<u8>) -> Result<(), OutOfMemory> {
+    let text = Value::Str(Txt::from_bytes(alloc, b"x")?);
+    let values = [Value::Bool(true), Value::Map(one_pair(alloc)), text];
+    for value in &values {
+        put_value(alloc, out, value)?;
+    }
+    Ok(())
+}
+
 fn values(alloc: Global) -> Result<Vec<u8>, OutOfMemory> {
     let mut out = Vec::new(alloc);
-    put_bytes(&mut out, b"#")?;
-    put_number(alloc, &mut out, 7)?;
-    put_bytes(&mut out, b" ")?;
-    put_whole(alloc, &mut out, i64::MIN)?;
+    put_numbers(alloc, &mut out)?;
     put_quoted(&mut out, b"\"")?;
-    put_value(alloc, &mut out, &Value::Bool(true))?;
-    put_value(alloc, &mut out, &Value::Map(one_pair(alloc)))?;
-    put_value(alloc, &mut out, &Value::Str(Txt::from_bytes(alloc, b"x")?))?;
+    put_values(alloc, &mut out)?;
     put_place(alloc, &mut out, Span { line: 12, col: 3 })?;
     Ok(out)
 }
@@ -68,6 +80,6 @@ fn values(alloc: Global) -> Result<Vec<u8>, OutOfMemory> {
 fn writes_values(rt: HostRuntime) -> Result<(), Fail> {
     let out = values(rt.alloc())?;
     let wanted = b"#7 -9223372036854775808\"\\\"\"true{1: -5}\"x\"12:3";
-    assert!(rt; out.as_slice() == wanted.as_slice());
+    is_text(&rt, out.as_slice(), wanted);
     Ok(())
 }

@@ -8,12 +8,12 @@ use Rattle.tests_texts.proofs.shapes.market_shape.Goals as goal
 
 pub returns-clause-shape : goal.returns-clause-shape
 returns-clause-shape c =
-    let shape : Shape = record { classes = c.from_vec.result; events = c.new.result } in
+    let shape : Shape = record { classes = c.in_ok-market_classes.field-0; events = c.new.result } in
     let same : shape ≡ market_shape = search rules in
     subst IsShape (sym same) market_is_shape
 
 pub returns-clause-names : goal.returns-clause-names
 returns-clause-names c =
-    let shape : Shape = record { classes = c.from_vec.result; events = c.new.result } in
+    let shape : Shape = record { classes = c.in_ok-market_classes.field-0; events = c.new.result } in
     let same : shape ≡ market_shape = search rules in
     subst HasNames (sym same) market_has_names
