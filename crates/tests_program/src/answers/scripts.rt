@@ -1,6 +1,6 @@
 //! Script lines: those that are fine, and what is told of those that aren't.
 
-use super::{Answer, due, equal, has, joined, rows_of, sides};
+use super::{Answer, due, has, is_text, joined, rows_of, sides};
 use std::alloc::Global;
 use std::process::Abort;
 use std::test::Fail;
@@ -86,7 +86,7 @@ fn answered(rt: &impl Abort, alloc: Global, pieces: &[&[u8]]) -> Result<Answer, 
 
 fn runs(rt: &impl Abort, alloc: Global, pieces: &[&[u8]]) -> Result<(), OutOfMemory> {
     let answer = answered(rt, alloc, pieces)?;
-    equal(rt, answer.notes.bytes(), b"");
+    is_text(rt, answer.ends.notes.bytes(), b"");
     assert_eq!(rt; answer.status, 0);
     Ok(())
 }
