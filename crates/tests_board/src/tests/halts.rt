@@ -68,7 +68,7 @@ fn halt(rt: &impl Abort, alloc: Global, plan: &Plan, board: &mut Board) -> Resul
 }
 
 // A board of the plan, stopped so.
-fn halted<'p>(
+fn halt_board<'p>(
     rt: &impl Abort,
     alloc: Global,
     plan: &'p Plan,
@@ -87,7 +87,7 @@ fn a_halt_stops_it(rt: HostRuntime) -> Result<(), Fail> {
     let alloc = rt.alloc();
     let plan = plan_for(&rt, alloc, TICK, b"request hit()\n", 2);
     let start = first_of(alloc, &plan)?;
-    let board = halted(&rt, alloc, &plan, &start)?;
+    let board = halt_board(&rt, alloc, &plan, &start)?;
     drop(send_all(&rt, board));
     Ok(())
 }

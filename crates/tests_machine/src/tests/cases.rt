@@ -71,7 +71,7 @@ pub(super) fn drawn_at(
 }
 
 // By a rule, with the root on host 0, and ticket 1.
-pub(super) fn driven(
+pub(super) fn drive_case(
     rt: &impl Abort,
     alloc: Global,
     case: &Case,

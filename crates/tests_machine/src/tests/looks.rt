@@ -1,6 +1,6 @@
 //! Events that only look hold a context together.
 
-use super::cases::driven;
+use super::cases::drive_case;
 use super::wants::{comes_before, comes_to, reply};
 use crate::TWO_LOOKS;
 use std::test::Fail;
@@ -20,7 +20,7 @@ fn stop(ticket: u32) -> Act {
 // With mails last, both have their segment out at the hall before one is stopped.
 #[test]
 fn two_events_look_at_once(rt: HostRuntime) -> Result<(), Fail> {
-    let (finished, labels) = driven(&rt, rt.alloc(), &TWO_LOOKS, PickRule::MailLast)?;
+    let (finished, labels) = drive_case(&rt, rt.alloc(), &TWO_LOOKS, PickRule::MailLast)?;
     comes_to(&rt, &finished, &[reply(5), reply(5)]);
     comes_before(&rt, &labels, &start(1), &stop(2));
     comes_before(&rt, &labels, &start(2), &stop(1));

@@ -1,7 +1,7 @@
 //! Moves, snapshots and created events, by all rules.
 
-use super::cases::driven;
-use super::wants::{comes_to, first_made, moved, place, places_are, reply};
+use super::cases::drive_case;
+use super::wants::{comes_to, first_made, move_outcome, place, places_are, reply};
 use crate::Case;
 use std::alloc::Global;
 use std::process::Abort;
@@ -40,7 +40,7 @@ const TOGETHER: Case = Case {
 };
 
 // What a snapshot after both sales tells.
-fn sold(alloc: Global) -> Result<Outcome, OutOfMemory> {
+fn sale_outcome(alloc: Global) -> Result<Outcome, OutOfMemory> {
     let shots = vec![in alloc;
         shot(alloc, Path::root(), 2)?,
         shot(alloc, hall(1), 7)?,
@@ -62,9 +62,9 @@ fn sold_at() -> [Place; 4] {
 
 // A hall moves between two sales, and all contexts are told after them.
 fn sells(rt: &impl Abort, alloc: Global, case: &Case, rule: PickRule) -> Result<(), Fail> {
-    let (finished, _) = driven(rt, alloc, case, rule)?;
-    let told = sold(alloc)?;
-    let outcomes = [reply(7), moved(hall(1), 1), reply(6), told, reply(11)];
+    let (finished, _) = drive_case(rt, alloc, case, rule)?;
+    let told = sale_outcome(alloc)?;
+    let outcomes = [reply(7), move_outcome(hall(1), 1), reply(6), told, reply(11)];
     comes_to(rt, &finished, &outcomes);
     places_are(rt, &finished, &sold_at());
     Ok(())
@@ -102,9 +102,9 @@ fn sold_once(alloc: Global) -> Result<Outcome, OutOfMemory> {
 
 // A snapshot shows what was sold before it.
 fn tells_sales(rt: &impl Abort, alloc: Global, rule: PickRule) -> Result<(), Fail> {
-    let (finished, _) = driven(rt, alloc, &SNAPSHOTS, rule)?;
+    let (finished, _) = drive_case(rt, alloc, &SNAPSHOTS, rule)?;
     let first = sold_once(alloc)?;
-    let second = sold(alloc)?;
+    let second = sale_outcome(alloc)?;
     comes_to(rt, &finished, &[reply(7), first, reply(6), second]);
     Ok(())
 }
@@ -127,17 +127,17 @@ const WALK: Case = Case {
 fn there_and_back() -> [Outcome; 7] {
     [
         reply(9),
-        moved(hall(1), 1),
+        move_outcome(hall(1), 1),
         reply(8),
-        moved(hall(1), 0),
+        move_outcome(hall(1), 0),
         reply(7),
-        moved(hall(1), 1),
+        move_outcome(hall(1), 1),
         reply(6),
     ]
 }
 
 fn goes_to_and_fro(rt: &impl Abort, alloc: Global, rule: PickRule) -> Result<(), Fail> {
-    let (finished, _) = driven(rt, alloc, &WALK, rule)?;
+    let (finished, _) = drive_case(rt, alloc, &WALK, rule)?;
     comes_to(rt, &finished, &there_and_back());
     Ok(())
 }
@@ -161,7 +161,7 @@ request one()
 };
 
 fn runs_created_calls(rt: &impl Abort, alloc: Global, rule: PickRule) -> Result<(), Fail> {
-    let (finished, _) = driven(rt, alloc, &SETTLED, rule)?;
+    let (finished, _) = drive_case(rt, alloc, &SETTLED, rule)?;
     comes_to(rt, &finished, &[reply(1), reply(11), reply(21), reply(31)]);
     first_made(rt, &finished, &[Ticket(2), Ticket(3)]);
     Ok(())

@@ -1,6 +1,6 @@
 //! Which of two labels each rule takes.
 
-use super::cases::driven;
+use super::cases::drive_case;
 use crate::Case;
 use std::alloc::Global;
 use std::process::Abort;
@@ -20,7 +20,7 @@ request buy(1,1,1)
 
 // After the Admit of the move a drive by this rule does this.
 fn goes_on_by(rt: &impl Abort, alloc: Global, rule: PickRule, act: &Act) -> Result<(), Fail> {
-    let (_, labels) = driven(rt, alloc, &MOVE_AND_SALE, rule)?;
+    let (_, labels) = drive_case(rt, alloc, &MOVE_AND_SALE, rule)?;
     match labels.get(1) {
         Some(label) => assert!(rt; label.act == *act),
         None => panic!(rt; "no label"),

@@ -8,7 +8,7 @@ ghost use Rattle.wave_effects.specs.Plans.{plan_of};
 ghost use Rattle.wave_effects.specs.Acts.{is_start, is_step};
 
 use super::cases::{plan_for, start_for};
-use super::wants::{comes_to, moved, reply};
+use super::wants::{comes_to, move_outcome, reply};
 use crate::Case;
 use plan_actors::PlanActors;
 use std::alloc::Global;
@@ -221,7 +221,7 @@ fn a_context_moves_to_where_it_is(rt: HostRuntime) -> Result<(), Fail> {
     comes_to(
         &rt,
         &finished,
-        &[reply(7), moved(hall(1), 1), absent, reply(3)],
+        &[reply(7), move_outcome(hall(1), 1), absent, reply(3)],
     );
     Ok(())
 }

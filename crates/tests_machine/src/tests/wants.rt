@@ -13,7 +13,7 @@ pub(super) fn reply(number: i64) -> Outcome {
     Outcome::Reply(Value::Int(number))
 }
 
-pub(super) fn moved(path: Path, host: u8) -> Outcome {
+pub(super) fn move_outcome(path: Path, host: u8) -> Outcome {
     Outcome::Moved(path, Host(host))
 }
 

@@ -234,7 +234,7 @@ pub fn all_hold<R: Abort + Threads + Wait + Sync>(
 }
 
 /// The status of a run in writes of at most so many bytes, of which one fails, what it wrote, and its note.
-pub fn broken<R: Threads + Wait + Sync>(
+pub fn break_call<R: Threads + Wait + Sync>(
     rt: &R,
     alloc: Global,
     text: &str,

@@ -1,6 +1,6 @@
 //! Scripts with policies, which are run piece by piece.
 
-use super::rows::{Case, all_hold, broken, holds, join, plain, refuses};
+use super::rows::{Case, all_hold, break_call, holds, join, plain, refuses};
 use super::services::EDGE;
 use std::alloc::Global;
 use std::process::Abort;
@@ -496,7 +496,7 @@ fn each_write_fails<R: Abort + Threads + Wait + Sync>(
     for (_, words) in ENGINES {
         let mut written = 0;
         for failing_write in 1..(whole.len() as u64).div_ceil(16) + 1 {
-            let (status, out, notes) = broken(
+            let (status, out, notes) = break_call(
                 rt,
                 alloc,
                 words,

@@ -1,7 +1,7 @@
 //! Tables: each read and each write of a run that fails, each rule that picks, and the limits of events.
 
 use super::crews::{LOOKED, LOOKS, MOVED, WENT_TO_AND_FRO};
-use super::rows::{Row, all_hold, broken, holds, join, plain, ran_on, traps, works};
+use super::rows::{Row, all_hold, break_call, holds, join, plain, ran_on, traps, works};
 use std::test::Fail;
 use tests_services::{CHAIN, MARKET, MOVES, TO_AND_FRO};
 use wave_io::OpenGate;
@@ -48,7 +48,7 @@ fn each_write_fails(rt: HostRuntime) -> Result<(), Fail> {
     assert_eq!(rt; THREE_LISTED.len(), 76);
     for words in ["run", "run --workers 4", "seq", "run --schedule 5"] {
         for before in 0..29 {
-            let (status, out, notes) = broken(&rt, alloc, words, input.as_slice(), 4, before + 1)?;
+            let (status, out, notes) = break_call(&rt, alloc, words, input.as_slice(), 4, before + 1)?;
             let written = out.bytes();
             assert!(rt; THREE_LISTED.starts_with(written));
             if status == 6 {
@@ -61,7 +61,7 @@ fn each_write_fails(rt: HostRuntime) -> Result<(), Fail> {
                 assert_eq!(rt; notes.bytes(), b"".as_slice());
             }
         }
-        let (status, _, _) = broken(&rt, alloc, words, input.as_slice(), 4, 30)?;
+        let (status, _, _) = break_call(&rt, alloc, words, input.as_slice(), 4, 30)?;
         assert_eq!(rt; status, 0);
     }
     Ok(())

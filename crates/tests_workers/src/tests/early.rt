@@ -59,7 +59,7 @@ fn sales(alloc: Global, count: u8) -> Result<String, OutOfMemory> {
 }
 
 // Of a run by so many workers, whether the sink had taken nothing before ticket 71, and how often it was written to.
-fn looked<R: Threads + Wait + Sync + Abort>(
+fn lines_seen<R: Threads + Wait + Sync + Abort>(
     rt: &R,
     alloc: Global,
     script: &str,
@@ -88,7 +88,7 @@ fn looked<R: Threads + Wait + Sync + Abort>(
 fn lines_are_written_while_the_workers_run(rt: HostRuntime) -> Result<(), Fail> {
     let alloc = rt.alloc();
     let script = sales(alloc, 70)?;
-    assert_eq!(rt; looked(&rt, alloc, script.as_str(), 1), (0, 2));
+    assert_eq!(rt; lines_seen(&rt, alloc, script.as_str(), 1), (0, 2));
     Ok(())
 }
 
@@ -97,9 +97,9 @@ fn lines_are_written_while_the_workers_run(rt: HostRuntime) -> Result<(), Fail> 
 fn lines_are_written_in_few_parts(rt: HostRuntime) -> Result<(), Fail> {
     let alloc = rt.alloc();
     let script = sales(alloc, 199)?;
-    let (_, alone) = looked(&rt, alloc, script.as_str(), 1);
+    let (_, alone) = lines_seen(&rt, alloc, script.as_str(), 1);
     assert_eq!(rt; alone, 4);
-    let (_, together) = looked(&rt, alloc, script.as_str(), 4);
+    let (_, together) = lines_seen(&rt, alloc, script.as_str(), 4);
     assert_eq!(rt; together, 4);
     Ok(())
 }
