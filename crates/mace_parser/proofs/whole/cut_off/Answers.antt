@@ -22,6 +22,6 @@ returns c =
       | in-Ok w ↦ read_tells c.args.text.now c.args.tokens.now front c.args.deep (service_tree w.in-Ok.field-0) c.match-all.result refl c.requires.nest w.in-Ok.ensures (w.result-is ∙ w.too_deep.ensures)
       | in-Err-Stuck w ↦
           let k = subst (λ f. TakesAll service_tree (Err f) (judge front front)) w.in-Err-Stuck.field-0-is w.in-Err-Stuck.ensures in
-          stopped_tells c.args.text.now c.args.tokens.now w.in-Err-Stuck.rest.now front c.args.deep c.match-all.result refl c.requires.nest k.0 (λ l. w.result-is ∙ w.stopped.ensures.all l) (λ l. w.result-is ∙ w.stopped.ensures.some l)
+          stopped_tells c.args.text.now c.args.tokens.now w.in-Err-Stuck.rest.now front c.args.deep c.match-all.result refl c.requires.nest k.0 (λ l. w.result-is ∙ w.stop_error.ensures.all l) (λ l. w.result-is ∙ w.stop_error.ensures.some l)
       | in-Err-Memory w ↦ subst (λ e. TellsFault c.args.text.now c.args.tokens.now e) (sym w.result-is) tt
     ]
