@@ -10,7 +10,7 @@ mod second;
 mod traces;
 mod traps;
 
-use crate::tests::rows::{Ends, call_alone, ends, is_text};
+use crate::tests::rows::{Ends, call_alone, is_text, make_ends};
 use std::alloc::Global;
 use std::process::Abort;
 use tests_services::words;
@@ -25,7 +25,7 @@ struct Answer {
 
 // What a call on this thread comes to, for words with a blank between them and an input.
 fn due(rt: &impl Abort, alloc: Global, text: &str, input: &[u8]) -> Result<Answer, OutOfMemory> {
-    let mut ends = ends(alloc, input, (4096, 4096), 4_000_000, (0, 0))?;
+    let mut ends = make_ends(alloc, input, (4096, 4096), 4_000_000, (0, 0))?;
     let words = words(alloc, text)?;
     let status = call_alone(
         alloc,

@@ -1,6 +1,6 @@
 //! How calls end: words, refusals in their order, faults of streams, the greatest input.
 
-use super::rows::{Row, call, call_alone, ends, holds, is_text, plain};
+use super::rows::{Row, call, call_alone, holds, is_text, make_ends, plain};
 use super::services::{FORMS, FORMS_PRINTED, TICK};
 use std::test::Fail;
 use tests_services::{MARKET, words};
@@ -119,7 +119,7 @@ fn loads_read_nothing(rt: HostRuntime) -> Result<(), Fail> {
     let alloc = rt.alloc();
     let summary = b"events 2211\nreplies 1865\ntraps 0\nmoved 341\nabsent 4\ntotal -5103\n";
     for (text, front) in [("gen 7", MARKET), ("load 7", summary.as_slice())] {
-        let mut ends = ends(alloc, TICK, (16, 4096), 100_000, (1, 0))?;
+        let mut ends = make_ends(alloc, TICK, (16, 4096), 100_000, (1, 0))?;
         let words = words(alloc, text)?;
         let got = call(
             &rt,
@@ -150,7 +150,7 @@ fn one_thread(rt: HostRuntime) -> Result<(), Fail> {
         ("seq", Some(0)),
         ("walk", Some(2)),
     ] {
-        let mut ends = ends(alloc, TICK, (16, 100), 1000, (0, 0))?;
+        let mut ends = make_ends(alloc, TICK, (16, 100), 1000, (0, 0))?;
         let words = words(alloc, text)?;
         let got = call_alone(
             alloc,
@@ -251,7 +251,7 @@ fn faults(rt: HostRuntime) -> Result<(), Fail> {
 #[test]
 fn runs_by_the_top_call(rt: HostRuntime) -> Result<(), Fail> {
     let alloc = rt.alloc();
-    let mut ends = ends(alloc, TICK, (16, 4), 10_000, (0, 0))?;
+    let mut ends = make_ends(alloc, TICK, (16, 4), 10_000, (0, 0))?;
     let words = words(alloc, "run")?;
     let status = call(
         &rt,

@@ -43,7 +43,7 @@ fn sink_of(alloc: Global, room: usize, most: usize, failing: u64) -> Result<MemS
 }
 
 /// A source of an input, and sinks: how many bytes go in and out at a time, the room for what comes out, and which read and write fail (0 is none).
-pub fn ends(
+pub fn make_ends(
     alloc: Global,
     input: &[u8],
     most: (usize, usize),
@@ -107,7 +107,7 @@ pub fn holds<R: Abort + Threads + Wait + Sync>(
     row: &Row,
 ) -> Result<(), OutOfMemory> {
     let failing = (row.failing_read, row.failing_write);
-    let mut ends = ends(alloc, row.input, (16, 4), 10_000, failing)?;
+    let mut ends = make_ends(alloc, row.input, (16, 4), 10_000, failing)?;
     let words = words(alloc, row.words)?;
     let got = call(
         rt,
@@ -132,7 +132,7 @@ pub fn ran_on<R: Threads + Wait + Sync, G: Gate + Sync>(
     input: &[u8],
     gate: &G,
 ) -> Result<(u8, MemSink), OutOfMemory> {
-    let mut ends = ends(alloc, input, (4096, 100), 100_000, (0, 0))?;
+    let mut ends = make_ends(alloc, input, (4096, 100), 100_000, (0, 0))?;
     let words = words(alloc, text)?;
     let status = call(
         rt,
@@ -244,7 +244,7 @@ pub fn break_call<R: Threads + Wait + Sync>(
 ) -> Result<(u8, MemSink, MemSink), OutOfMemory>
     requires { 0 < piece }
 {
-    let mut ends = ends(alloc, input, (4096, piece), 10_000, (0, failing_write))?;
+    let mut ends = make_ends(alloc, input, (4096, piece), 10_000, (0, failing_write))?;
     let words = words(alloc, text)?;
     let status = call(
         rt,

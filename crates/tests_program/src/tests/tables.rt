@@ -48,7 +48,14 @@ fn each_write_fails(rt: HostRuntime) -> Result<(), Fail> {
     assert_eq!(rt; THREE_LISTED.len(), 76);
     for words in ["run", "run --workers 4", "seq", "run --schedule 5"] {
         for before in 0..29 {
-            let (status, out, notes) = break_call(&rt, alloc, words, input.as_slice(), 4, before + 1)?;
+            let (status, out, notes) = break_call(
+                &rt,
+                alloc,
+                words,
+                input.as_slice(),
+                4,
+                before + 1,
+            )?;
             let written = out.bytes();
             assert!(rt; THREE_LISTED.starts_with(written));
             if status == 6 {
