@@ -266,7 +266,7 @@ module _ {A F R J : Type 0} where
   with_bench s t p w y = record {
     before = s.before;
     head = s.head;
-    after_admit = s.admitted;
+    admitted = s.admitted;
     cells = set nat_eq s.cells t y.part.cell;
     columns = set path_eq s.columns p y.part.column;
     hands = set nat_eq s.hands w y.hand;
@@ -346,7 +346,7 @@ module _ {A F R J : Type 0} (sys : Actors A F R J) where
   after_admit s t j = record {
     before = s.before;
     head = s.head;
-    after_admit = suc s.admitted;
+    admitted = suc s.admitted;
     cells = set nat_eq s.cells t (new_cell (sys.make j t) t);
     columns = s.columns;
     hands = s.hands;
