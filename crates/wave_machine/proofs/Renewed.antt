@@ -1,5 +1,5 @@
 -- What a ticket has in the list, listed anew: one slot, or the mails past a number.
-use Rattle.std.proofs.Common.{◌≡◌, ◌≢◌, ◌∙◌, ◌⊎◌, inl, inr, ℕ, zero, suc, ◌&&◌, ◌+◌, ◌-◌, ◌<◌, ◌≤◌, ◌==◌, Bool, true, false, List, [], ◌∷◌, ◌++◌, length, map, take, drop, Option, Some, None, refl, sym, ap, subst, arith, append_assoc, append-nil, length-drop}
+use Rattle.std.proofs.Common.{◌≡◌, ◌≢◌, ◌∙◌, ◌⊎◌, inl, inr, ℕ, zero, suc, ◌&&◌, ◌+◌, ◌-◌, ◌<◌, ◌≤◌, ◌==◌, Bool, true, false, List, [], ◌∷◌, ◌++◌, length, map, take, drop, Option, Some, None, refl, sym, ap, subst, arith, append_assoc, append-nil, length-drop, true≢false}
 use Rattle.std.specs.Prelude.{flat_map, option_map, if◌then◌else◌, nat_lt, slice_get}
 use Rattle.std.specs.List.{AllByRecursion}
 use Rattle.std.specs.List.Sorted.{IsStrictlySortedBy}
@@ -24,12 +24,12 @@ use Rattle.wave_effects.specs.declared.actor.Actor.{Actor}
 use Rattle.wave_machine.specs.declared.ready.Ready.{Ready}
 use Rattle.wave_effects.specs.Machines.{Kept}
 use Rattle.wave_effects.specs.Sized.{IsNumbered}
-use Rattle.wave_machine.specs.inner.Asking.{in_order, label_at, mail_labels}
-use Rattle.wave_machine.specs.inner.Index.{AreOwn, Below, Cuts, From, Goes, IsBelow, IsFrom, IsHead, IsOwn, Lists, ListsNew, Relists, RelistsBoth, RelistsNear, RelistsNext, RelistsOwn, asked_as, by_none, by_slot, cell_at, numbers_in, slot_at, share_of, slot_by, with_above, with_next, with_own, with_slot}
+use Rattle.wave_machine.specs.inner.Asking.{in_order, label_at, mail_labels, status_labels}
+use Rattle.wave_machine.specs.inner.Index.{AreOwn, Below, Cuts, From, Goes, IsBelow, IsFrom, IsHead, IsOwn, Lists, ListsNew, Relists, RelistsBoth, RelistsNear, RelistsNext, RelistsOwn, RelistsStatus, asked_as, asks_at, asks_by, asks_in, by_none, by_slot, cell_at, numbers_in, slot_at, share_of, slot_by, with_above, with_next, with_own, with_slot}
 use Rattle.wave_machine.specs.inner.Others.{but}
 use Rattle.wave_machine.proofs.ListingLists.{by_number, find_apart, find_first, flat_none, less_is}
 use Rattle.wave_machine.proofs.Ordering.{all_append, all_map, flat_append, middle_of, numbers_append, same_numbered}
-use Rattle.wave_machine.proofs.Owned.{at_slot, before, before_below, behind, behind_from, numbers_below, numbers_from, one_slot, other_number, other_ticket, own_as, own_mail, own_next, own_slot, own_with, split_at, split_new}
+use Rattle.wave_machine.proofs.Owned.{at_slot, before, before_below, behind, behind_from, numbers_below, numbers_from, one_slot, other_number, other_ticket, own_as, own_mail, own_next, own_slot, own_with, split_at, split_new, slot_or}
 use Rattle.wave_machine.proofs.Relisted.{later_from, own_goes}
 
 -- ---- parts that are the same for each number that a ticket has
@@ -314,8 +314,31 @@ own_above m part t n own = record {
         by_ticket (inr d) = subst (P u j) (sym (other_mails m t n part u j (not_same u t d))) there
 
 -- ---- all that a label changes near it
-pub own_two : (m : Kept) (t k : ℕ) (a b c : List Ready) → Relists m t 0 a b → Relists m t k b c → RelistsOwn m t k a c
-own_two m t k a b c first second = record { parts = λ h head part own e. second.parts h head (with_slot part t 0 (slot_at m t 0)) (own_with m part t 0 own) (first.parts h head part own e) }
+pub status_all : (m : Kept) (t : ℕ) (asked : Bool) (a b : List Ready) → Relists m t 0 a b → RelistsStatus m t asked a b
+status_all m t asked a b r = record { parts = λ h head part own none e. r.parts h head part own e }
+
+-- a status that asked for nothing, and asks for nothing now
+silent : (stores : List Stores) (w t : ℕ) (s : Status) → asks_in s ≡ false → status_labels stores w t s ≡ []
+silent stores w t (status.Waiting p) e = absurd (true≢false e)
+silent stores w t (status.Ready p) e = absurd (true≢false e)
+silent stores w t status.Travelling e = refl
+silent stores w t (status.Running p) e = refl
+silent stores w t status.Ended e = refl
+
+pub silent_slot : (m : Kept) (t : ℕ) → asks_at m t ≡ false → slot_at m t 0 ≡ []
+silent_slot m t = by_cell (cell_at m t)
+  where
+    by_cell : (o : Option (Cell Actor)) → asks_by o ≡ false → slot_by m.stores t 0 o ≡ []
+    by_cell None e = refl
+    by_cell (Some c) e = silent m.stores 0 t c.status e
+
+pub status_none : (m : Kept) (t : ℕ) (asked : Bool) (a : List Ready) → asked ≡ false → asks_at m t ≡ false → RelistsStatus m t asked a a
+status_none m t asked a unasked none_now = record {
+  parts = λ h head part own none e. e ∙ ap (λ r. in_order (h ++ r)) (same_slots m part (with_slot part t 0 (slot_at m t 0)) (λ u j low high within. sym (slot_or part t 0 (slot_at m t 0) (λ v i ls. ls ≡ part v i) u j (silent_slot m t none_now ∙ sym (none unasked)) refl)));
+}
+
+pub own_two : (m : Kept) (t k : ℕ) (asked : Bool) (a b c : List Ready) → RelistsStatus m t asked a b → Relists m t k b c → RelistsOwn m t k asked a c
+own_two m t k asked a b c first second = record { parts = λ h head part own none e. second.parts h head (with_slot part t 0 (slot_at m t 0)) (own_with m part t 0 own) (first.parts h head part own none e) }
 
 -- a status that is listed anew twice
 twice : (m : Kept) (t : ℕ) (part : ℕ → ℕ → List Label) (u j : ℕ) → with_own m t 0 part u j ≡ with_slot part t 0 (slot_at m t 0) u j
@@ -325,8 +348,8 @@ twice m t part u j = by_test ((u == t) && (j == 0))
     by_test true = refl
     by_test false = refl
 
-pub own_one : (m : Kept) (t k : ℕ) (a b : List Ready) → k ≡ 0 → Relists m t 0 a b → RelistsOwn m t k a b
-own_one m t k a b zero_is first = subst (λ n. RelistsOwn m t n a b) (sym zero_is) (record { parts = λ h head part own e. first.parts h head part own e ∙ ap (λ r. in_order (h ++ r)) (same_slots m (with_slot part t 0 (slot_at m t 0)) (with_own m t 0 part) (λ u j low high within. sym (twice m t part u j))) })
+pub own_one : (m : Kept) (t k : ℕ) (asked : Bool) (a b : List Ready) → k ≡ 0 → RelistsStatus m t asked a b → RelistsOwn m t k asked a b
+own_one m t k asked a b zero_is first = subst (λ n. RelistsOwn m t n asked a b) (sym zero_is) (record { parts = λ h head part own none e. first.parts h head part own none e ∙ ap (λ r. in_order (h ++ r)) (same_slots m (with_slot part t 0 (slot_at m t 0)) (with_own m t 0 part) (λ u j low high within. sym (twice m t part u j))) })
 
 pub both_two : (m : Kept) (before after : Option ℕ) (a b c : List Ready) → RelistsNext m before a b → RelistsNext m after b c → RelistsBoth m before after a c
 both_two m before after a b c first second = record { parts = λ h head part own e. second.parts h head (with_next m before part) (own_next m before part own) (first.parts h head part own e) }
@@ -376,14 +399,14 @@ module _ (m : Kept) (t : ℕ) where
       next_as (but t after) (with_next m (but t before) part) (with_next m before part) (but_as before part there) u j
       ∙ but_as after (with_next m before part) (next_there before part there) u j
 
-pub near : (m : Kept) (t k n : ℕ) (before after : Option ℕ) (a b c d : List Ready) → RelistsOwn m t k a b → ListsNew m t n b c → RelistsBoth m (but t before) (but t after) c d → RelistsNear m t k n before after a d
-near m t k n before after a b c d first second third = record {
-  parts = λ h head part own gone l is.
+pub near : (m : Kept) (t k n : ℕ) (asked : Bool) (before after : Option ℕ) (a b c d : List Ready) → RelistsOwn m t k asked a b → ListsNew m t n b c → RelistsBoth m (but t before) (but t after) c d → RelistsNear m t k n asked before after a d
+near m t k n asked before after a b c d first second third = record {
+  parts = λ h head part own none gone l is.
       let one = with_own m t k part in
       let own_one = own_with m (with_slot part t 0 (slot_at m t 0)) t k (own_with m part t 0 own) in
       let two = with_above m t n one in
       let own_two = own_above m one t n own_one in
-      third.parts h head two own_two (second.parts h head one own_one (λ j past. still part gone l j past) (first.parts h head part own is))
+      third.parts h head two own_two (second.parts h head one own_one (λ j past. still part gone l j past) (first.parts h head part own none is))
       ∙ ap (λ r. in_order (h ++ r)) (same_slots m (with_next m (but t after) (with_next m (but t before) two)) (with_next m after (with_next m before two)) (λ u j low high within. both_but m t before after two (there part) u j));
 }
   where

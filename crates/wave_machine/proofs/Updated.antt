@@ -17,6 +17,7 @@ use Rattle.wave_effects.specs.Apart.{Moves, new_cells}
 use Rattle.wave_effects.specs.Sized.{IsNumbered}
 use Rattle.wave_machine.specs.inner.Asking.{in_order, mail_labels}
 use Rattle.wave_machine.specs.inner.Index.{IsHead, IsInner, IsOwn, KeepsMails, RelistsNear, Taken, asked_as, asked_at, asked_by, asked_of, by_none, by_part, by_slot, cell_at, has_at, next_at, act_number, numbers_in, sent_at, sent_by, slot_at, slot_by, with_above, with_next, with_slot}
+use Rattle.wave_machine.proofs.Renewed.{silent_slot}
 use Rattle.wave_machine.proofs.Elsewhere.{asked_mail, grown_few, others_slot, own_slot}
 use Rattle.wave_machine.proofs.ListingLists.{flat_none, flat_same}
 use Rattle.wave_machine.proofs.Ordering.{all_flat, all_map, flat_append, numbers_append, same_numbered}
@@ -198,18 +199,18 @@ module _ (m m' : Kept) (l : Label) (more : ℕ) (moves : Moves m m' l more) (gro
         slot_or m' status_new u j (ticket_of l.act) (act_number l.act) (λ not_own. slot_or m' (slot_at m) u j (ticket_of l.act) 0 (λ not_status.
         slots_are here u j low high not_above not_own not_status not_before not_after)))))
 
-    near_by : (h : List Label) → IsHead h → (old new : List Ready) → has_at (path_of l.act) (slice_get m'.stores l.host) ≡ has_at (path_of l.act) (slice_get m.stores l.host)
-        → RelistsNear m' (ticket_of l.act) (act_number l.act) (sent_at m (ticket_of l.act)) before after old new → map by_none old ≡ in_order (h ++ by_part m (asked_at m)) → map by_none new ≡ in_order (h ++ by_part m' (asked_at m'))
-    near_by h head old new here r e =
+    near_by : (asked : Bool) → (asked ≡ false → slot_at m (ticket_of l.act) 0 ≡ []) → (h : List Label) → IsHead h → (old new : List Ready) → has_at (path_of l.act) (slice_get m'.stores l.host) ≡ has_at (path_of l.act) (slice_get m.stores l.host)
+        → RelistsNear m' (ticket_of l.act) (act_number l.act) (sent_at m (ticket_of l.act)) asked before after old new → map by_none old ≡ in_order (h ++ by_part m (asked_at m)) → map by_none new ≡ in_order (h ++ by_part m' (asked_at m'))
+    near_by asked none h head old new here r e =
         let numbers : ℕ → List ℕ = λ u. tickets_from 0 (numbers_in (cell_at m' u)) in
-        r.parts h head (slot_at m) (own_slots m) (none_above (ticket_of l.act)) keeps.number (e ∙ ap (λ ls. in_order (h ++ ls)) (sym wider_slots))
+        r.parts h head (slot_at m) (own_slots m) none (none_above (ticket_of l.act)) keeps.number (e ∙ ap (λ ls. in_order (h ++ ls)) (sym wider_slots))
         ∙ ap (λ ls. in_order (h ++ ls)) (same_numbered (λ u. flat_map (all_new u) (numbers u)) (λ u. flat_map (slot_at m' u) (numbers u)) m'.first (length m'.cells) (λ u low high. flat_same (all_new u) (slot_at m' u) (all_new_is here u low high) (numbers u)) ∙ by_slots m')
 
 pub near_is : (m m' : Kept) (l : Label) (seen : Seen) (more : ℕ) → Taken m m' l seen more → (h : List Label) → IsHead h → (old new : List Ready) → has_at (path_of l.act) (slice_get m'.stores l.host) ≡ seen.here
-    → RelistsNear m' (ticket_of l.act) (act_number l.act) seen.sent (option_map (λ (t : Ticket). t.0) seen.next) (next_at (path_of l.act) (slice_get m'.stores l.host)) old new
+    → RelistsNear m' (ticket_of l.act) (act_number l.act) seen.sent seen.asked (option_map (λ (t : Ticket). t.0) seen.next) (next_at (path_of l.act) (slice_get m'.stores l.host)) old new
     → map by_none old ≡ in_order (h ++ by_part m (asked_at m)) → map by_none new ≡ in_order (h ++ by_part m' (asked_at m'))
 near_is m m' l seen more taken h head old new here r =
     let after = next_at (path_of l.act) (slice_get m'.stores l.host) in
-    near_by m m' l more taken.moves taken.grows taken.mails taken.numbered h head old new (here ∙ taken.sees.here)
-    (subst (λ o. RelistsNear m' (ticket_of l.act) (act_number l.act) (sent_at m (ticket_of l.act)) o after old new) taken.sees.next
-    (subst (λ n. RelistsNear m' (ticket_of l.act) (act_number l.act) n (option_map (λ (t : Ticket). t.0) seen.next) after old new) taken.sees.sent r))
+    near_by m m' l more taken.moves taken.grows taken.mails taken.numbered seen.asked (λ e. silent_slot m (ticket_of l.act) (sym taken.sees.asked ∙ e)) h head old new (here ∙ taken.sees.here)
+    (subst (λ o. RelistsNear m' (ticket_of l.act) (act_number l.act) (sent_at m (ticket_of l.act)) seen.asked o after old new) taken.sees.next
+    (subst (λ n. RelistsNear m' (ticket_of l.act) (act_number l.act) n seen.asked (option_map (λ (t : Ticket). t.0) seen.next) after old new) taken.sees.sent r))

@@ -21,7 +21,7 @@ ghost use Rattle.wave_effects.specs.Spare.{IsAsLong, SameButRooms};
 
 use crate::done::{count_done, done_stays};
 use crate::index::ticket_of;
-use crate::looks::{line_at, may_leave, path_of, sent_at, share_at};
+use crate::looks::{asks_at, line_at, may_leave, path_of, sent_at, share_at};
 use crate::ready::Ready;
 use crate::renewing::{relist_after, relist_head};
 use host_map::{HostStore, place_of};
@@ -46,13 +46,14 @@ pub(crate) struct Listed<'p> {
 }
 
 // What is looked at before a label is taken: who is next in the line of its context, whether the context is there, the share of its
-// ticket, and how many mails that has sent.
+// ticket, how many mails that has sent, and whether its status may ask for something.
 #[derive(Clone, Copy)]
 pub(crate) struct Seen {
     pub(crate) next: Option<Ticket>,
     pub(crate) here: bool,
     pub(crate) share: usize,
     pub(crate) sent: u32,
+    pub(crate) asked: bool,
 }
 
 impl<'p> Listed<'p> {
@@ -248,6 +249,7 @@ impl<'p> Listed<'p> {
             here,
             share: share_at(&self.engine, ticket),
             sent: sent_at(&self.engine, ticket),
+            asked: asks_at(&self.engine, ticket),
         }
     }
 

@@ -4,11 +4,11 @@ ghost use Rattle.std.specs.Prelude.{◌≡◌, ◌+◌, Some, option_copied, opt
 ghost use Rattle.wave_labels.specs.Labels.{act_of};
 ghost use Rattle.wave_states.specs.Labels.{path_of};
 ghost use Rattle.wave_effects.specs.Keeping.{kept_of};
-ghost use Rattle.wave_machine.specs.inner.Index.{cell_at, has_at, held_at, next_at, next_of, sent_at, share_at, share_of};
+ghost use Rattle.wave_machine.specs.inner.Index.{asks_at, asks_in, cell_at, has_at, held_at, next_at, next_of, sent_at, share_at, share_of};
 
 use crate::asking::store_at;
 use context_queue::{Entry, entries_stand};
-use event_cells::Cell;
+use event_cells::{Cell, Status};
 use host_map::HostStore;
 use wave_base::{Host, Path, Ticket};
 use wave_effects::{Actor, Engine};
@@ -52,6 +52,26 @@ pub(crate) fn sent_at(engine: &Engine, ticket: Ticket) -> u32
     match cell_at(engine, ticket) {
         Some(cell) => cell.outbox.sent_count(),
         None => 0,
+    }
+}
+
+// Whether the status of a ticket may ask for something.
+pub(crate) fn asks_at(engine: &Engine, ticket: Ticket) -> bool
+    ensures { result ≡ asks_at (kept_of engine.now) ticket.0 }
+{
+    match cell_at(engine, ticket) {
+        Some(cell) => asks_in(&cell.status),
+        None => false,
+    }
+}
+
+// Whether a status may ask for something: one that waits, or is ready.
+fn asks_in(status: &Status) -> bool
+    ensures { result ≡ asks_in status.now }
+{
+    match status {
+        Status::Waiting(_) | Status::Ready(_) => true,
+        Status::Travelling | Status::Running(_) | Status::Ended => false,
     }
 }
 

@@ -1,6 +1,6 @@
 //! What the index has of a ticket, of all tickets and of the head, listed anew.
 
-ghost use Rattle.std.specs.Prelude.{◌≡◌, ◌↔◌, ◌≤◌, ◌<◌, ◌+◌, ◌++◌, ◌^◌, ℕ, IsTrue, List, Option, Some, true, drop, flat_map, length, map, is_some, option_map, slice_get, take, vec_len, vec_capacity};
+ghost use Rattle.std.specs.Prelude.{◌≡◌, ◌↔◌, ◌≤◌, ◌<◌, ◌+◌, ◌++◌, ◌^◌, ◌||◌, ℕ, IsTrue, List, Option, Some, true, drop, flat_map, length, map, is_some, option_map, slice_get, take, vec_len, vec_capacity};
 ghost use Rattle.std.specs.List.{AllByRecursion};
 ghost use Rattle.std.specs.List.Sorted.{IsStrictlySortedBy};
 ghost use Rattle.std.specs.Map.{keys_of};
@@ -15,13 +15,13 @@ ghost use Rattle.wave_machine.specs.inner.Asking.{admit_labels, in_order, label_
 ghost use Rattle.wave_effects.specs.Sized.{IsListable, IsNumbered};
 ghost use Rattle.wave_machine.specs.inner.Done.{AreDone};
 ghost use Rattle.wave_machine.specs.inner.Others.{but};
-ghost use Rattle.wave_machine.specs.inner.Index.{IsHead, IsInner, Lists, ListsNew, Relists, RelistsBoth, RelistsNear, RelistsNext, RelistsOwn, Taken, asked_as, asked_at, asked_of, by_none, by_part, head_in, is_admit, next_at, act_number, share_of, weight_of};
+ghost use Rattle.wave_machine.specs.inner.Index.{IsHead, IsInner, Lists, ListsNew, Relists, RelistsBoth, RelistsNear, RelistsNext, RelistsOwn, RelistsStatus, Taken, asked_as, asked_at, asked_of, asks_at, by_none, by_part, head_in, is_admit, next_at, act_number, share_of, weight_of};
 ghost use Rattle.wave_effects.specs.Keeping.{kept_of};
 
 use crate::asking::{admit_label, commit_label, mail_label, status_label};
 use crate::index::{act_number, cut_admit, cut_commit, cut_slot, is_at, put_some, ticket_of};
 use crate::listed::Seen;
-use crate::looks::{cell_at, line_at, path_of};
+use crate::looks::{asks_at, cell_at, line_at, path_of};
 use crate::order::{ADMIT, GRANT, kind_rank};
 use crate::ready::Ready;
 use event_cells::{Cell, Envelope};
@@ -57,30 +57,64 @@ fn relist_near(
     requires listable { IsListable (kept_of engine.now) }
     requires next { option_map (λ t. t.0) next ≡ next_at (path_of (act_of label.now.act)) (slice_get engine.now.stores.items label.now.host.0) }
     requires room { vec_len index.old + (4 + weight_of engine.now.cells.items) ≤ vec_capacity index.old }
-    ensures relists { RelistsNear (kept_of engine.now) (ticket_of (act_of label.now.act)) (act_number (act_of label.now.act)) seen.sent (option_map (λ t. t.0) seen.next) (next_at (path_of (act_of label.now.act)) (slice_get engine.now.stores.items label.now.host.0)) index.old.items index.new.items }
+    ensures relists { RelistsNear (kept_of engine.now) (ticket_of (act_of label.now.act)) (act_number (act_of label.now.act)) seen.sent seen.asked (option_map (λ t. t.0) seen.next) (next_at (path_of (act_of label.now.act)) (slice_get engine.now.stores.items label.now.host.0)) index.old.items index.new.items }
     ensures len { vec_len index.new ≤ vec_len index.old + (4 + weight_of engine.now.cells.items) }
     ensures capacity { vec_capacity index.new ≡ vec_capacity index.old }
 {
     let ticket = ticket_of(&label.act);
     let likely = kind_rank(&label.act);
-    relist_own(engine, ticket, act_number(&label.act), likely, index);
+    relist_own(
+        engine,
+        ticket,
+        act_number(&label.act),
+        likely,
+        seen.asked,
+        index,
+    );
     list_new(engine, ticket, seen.sent, index);
     relist_both(engine, other(seen.next, ticket), other(next, ticket), index);
 }
 
 // Lists anew what the status of a ticket asks for, and one of its mails; number 0 where there is none. What they asked for is likely of
 // this kind.
-fn relist_own(engine: &Engine, ticket: Ticket, number: u32, likely: u8, index: &mut Vec<Ready>)
+fn relist_own(
+    engine: &Engine,
+    ticket: Ticket,
+    number: u32,
+    likely: u8,
+    asked: bool,
+    index: &mut Vec<Ready>,
+)
     requires listable { IsListable (kept_of engine.now) }
     requires room { vec_len index.old + 2 ≤ vec_capacity index.old }
-    ensures relists { RelistsOwn (kept_of engine.now) ticket.0 number index.old.items index.new.items }
+    ensures relists { RelistsOwn (kept_of engine.now) ticket.0 number asked index.old.items index.new.items }
     ensures len { vec_len index.new ≤ vec_len index.old + 2 }
     ensures capacity { vec_capacity index.new ≡ vec_capacity index.old }
 {
-    relist_slot(engine, ticket, 0, likely, index);
+    relist_status(engine, ticket, likely, asked, index);
     if number != 0 {
         relist_slot(engine, ticket, number, likely, index);
     }
+}
+
+// Lists anew what the status of a ticket asks for. It had nothing in the list where it was not asked.
+fn relist_status(engine: &Engine, ticket: Ticket, likely: u8, asked: bool, index: &mut Vec<Ready>)
+    requires listable { IsListable (kept_of engine.now) }
+    requires room { vec_len index.old < vec_capacity index.old }
+    ensures relists { RelistsStatus (kept_of engine.now) ticket.0 asked index.old.items index.new.items }
+    ensures len { vec_len index.new ≤ vec_len index.old + 1 }
+    ensures capacity { vec_capacity index.new ≡ vec_capacity index.old }
+{
+    if is_asked(engine, ticket, asked) {
+        relist_slot(engine, ticket, 0, likely, index);
+    }
+}
+
+// Whether a status was asked, or is to be asked now.
+fn is_asked(engine: &Engine, ticket: Ticket, asked: bool) -> bool
+    ensures { result ≡ (asked || asks_at (kept_of engine.now) ticket.0) }
+{
+    asked || asks_at(engine, ticket)
 }
 
 // Lists anew what a number of a ticket asks for. What it asked for is likely of this kind.

@@ -11,6 +11,8 @@ use Rattle.wave_labels.specs.Labels.{act_of}
 use Rattle.context_queue.specs.declared.entry.Entry.{Entry}
 use Rattle.context_queue.specs.Entries.{entry_of, next_in}
 use Rattle.event_cells.specs.declared.cell.Cell.{Cell}
+use Rattle.event_cells.specs.declared.status.Status.{Status}
+use Rattle.event_cells.specs.declared.status.Status.TheVariants as status
 use Rattle.event_cells.specs.Keeps.{mail_in}
 use Rattle.host_map.specs.Stores.{Stores, has}
 use Rattle.wave_states.specs.Labels.{Act, Label, Admit, Queue, Visit, Free, Pass, Land, Commit, path_of, ticket_of}
@@ -160,6 +162,19 @@ slot_by stores t k (Some c) = asked_as stores t c k
 abbrev pub slot_at : Kept → ℕ → ℕ → List Label
 slot_at m t k = slot_by m.stores t k (cell_at m t)
 
+-- whether a status may ask for something
+abbrev pub asks_in : Status → Bool
+asks_in (status.Waiting p) = true
+asks_in (status.Ready p) = true
+asks_in _ = false
+
+abbrev pub asks_by : Option (Cell Actor) → Bool
+asks_by None = false
+asks_by (Some c) = asks_in c.status
+
+abbrev pub asks_at : Kept → ℕ → Bool
+asks_at m t = asks_by (cell_at m t)
+
 -- how many numbers a ticket has
 abbrev pub numbers_in : Option (Cell Actor) → ℕ
 numbers_in None = 0
@@ -194,12 +209,16 @@ pub record IsHead (h : List Label) : Type 0 where
 pub record Relists (m : Kept) (t k : ℕ) (old new : List Ready) : Type 0 where
   pub parts : (h : List Label) → IsHead h → (part : ℕ → ℕ → List Label) → AreOwn part → map by_none old ≡ in_order (h ++ by_slot m part) → map by_none new ≡ in_order (h ++ by_slot m (with_slot part t k (slot_at m t k)))
 
+-- the same for its status, which had nothing in the list where it is not asked
+pub record RelistsStatus (m : Kept) (t : ℕ) (asked : Bool) (old new : List Ready) : Type 0 where
+  pub parts : (h : List Label) → IsHead h → (part : ℕ → ℕ → List Label) → AreOwn part → (asked ≡ false → part t 0 ≡ []) → map by_none old ≡ in_order (h ++ by_slot m part) → map by_none new ≡ in_order (h ++ by_slot m (with_slot part t 0 (slot_at m t 0)))
+
 -- what its status asks for, and one of its mails (number 0 where there is none)
 abbrev pub with_own : Kept → ℕ → ℕ → (ℕ → ℕ → List Label) → ℕ → ℕ → List Label
 with_own m t k part = with_slot (with_slot part t 0 (slot_at m t 0)) t k (slot_at m t k)
 
-pub record RelistsOwn (m : Kept) (t k : ℕ) (old new : List Ready) : Type 0 where
-  pub parts : (h : List Label) → IsHead h → (part : ℕ → ℕ → List Label) → AreOwn part → map by_none old ≡ in_order (h ++ by_slot m part) → map by_none new ≡ in_order (h ++ by_slot m (with_own m t k part))
+pub record RelistsOwn (m : Kept) (t k : ℕ) (asked : Bool) (old new : List Ready) : Type 0 where
+  pub parts : (h : List Label) → IsHead h → (part : ℕ → ℕ → List Label) → AreOwn part → (asked ≡ false → part t 0 ≡ []) → map by_none old ≡ in_order (h ++ by_slot m part) → map by_none new ≡ in_order (h ++ by_slot m (with_own m t k part))
 
 -- of the next in a line its status, where there is one
 abbrev pub with_next : Kept → Option ℕ → (ℕ → ℕ → List Label) → ℕ → ℕ → List Label
@@ -221,10 +240,10 @@ with_above m t n part u j = if (u == t) && nat_lt n j then slot_at m t j else pa
 pub record ListsNew (m : Kept) (t n : ℕ) (old new : List Ready) : Type 0 where
   pub parts : (h : List Label) → IsHead h → (part : ℕ → ℕ → List Label) → AreOwn part → ((j : ℕ) → n < j → part t j ≡ []) → map by_none old ≡ in_order (h ++ by_slot m part) → map by_none new ≡ in_order (h ++ by_slot m (with_above m t n part))
 
--- A label of a ticket, on its mail of number k (0 where it is on none), before which the ticket had sent n mails: what the status asks
--- for, what that mail asks for, what the mails sent by it ask for, and what the statuses of who was and is next ask for.
-pub record RelistsNear (m : Kept) (t k n : ℕ) (before after : Option ℕ) (old new : List Ready) : Type 0 where
-  pub parts : (h : List Label) → IsHead h → (part : ℕ → ℕ → List Label) → AreOwn part → ((j : ℕ) → n < j → part t j ≡ []) → k ≤ n → map by_none old ≡ in_order (h ++ by_slot m part)
+-- A label of a ticket, on its mail of number k (0 where it is on none), before which the ticket had sent n mails and its status was asked or
+-- had nothing in the list: what the status asks for, what that mail asks for, what the mails sent by it ask for, and what the statuses of who was and is next ask for.
+pub record RelistsNear (m : Kept) (t k n : ℕ) (asked : Bool) (before after : Option ℕ) (old new : List Ready) : Type 0 where
+  pub parts : (h : List Label) → IsHead h → (part : ℕ → ℕ → List Label) → AreOwn part → (asked ≡ false → part t 0 ≡ []) → ((j : ℕ) → n < j → part t j ≡ []) → k ≤ n → map by_none old ≡ in_order (h ++ by_slot m part)
       → map by_none new ≡ in_order (h ++ by_slot m (with_next m after (with_next m before (with_above m t n (with_own m t k part)))))
 
 -- the Admit of the next ticket stands there
@@ -305,6 +324,7 @@ pub record Sees (m : Kept) (host t : ℕ) (p : Path) (seen : Seen) : Type 0 wher
   pub here : seen.here ≡ has_at p (slice_get m.stores host)
   pub share : seen.share ≡ share_at m t
   pub sent : seen.sent ≡ sent_at m t
+  pub asked : seen.asked ≡ asks_at m t
 
 -- The ticket's cell has the mails that it had, but for that of the label, as a listing reads them; and it has sent no fewer.
 pub record KeepsMails (m m' : Kept) (l : Label) : Type 0 where

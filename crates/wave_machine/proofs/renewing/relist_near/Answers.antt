@@ -16,6 +16,7 @@ returns-clause-relists c =
     let t = c.ticket_of-ticket.result.0 in
     let k = c.act_number.result in
     let n = c.args.seen.sent in
+    let asked = c.args.seen.asked in
     let before = option_map (λ (x : Ticket). x.0) c.args.seen.next in
     let store = slice_get c.args.engine.now.stores.items c.args.label.now.host.0 in
     let after = next_at (path_of act) store in
@@ -23,8 +24,8 @@ returns-clause-relists c =
     let one = c.relist_own.new.index.items in
     let two = c.list_new.new.index.items in
     let new = c.relist_both.new.index.items in
-    subst (λ u. RelistsNear m u (act_number act) n before (next_at (path_of act) store) old new) c.ticket_of-ticket.ensures
-    (subst (λ j. RelistsNear m t j n before (next_at (path_of act) store) old new) c.act_number.ensures
-    (near m t k n before after old one two new c.relist_own.ensures.relists c.list_new.ensures.lists
+    subst (λ u. RelistsNear m u (act_number act) n asked before (next_at (path_of act) store) old new) c.ticket_of-ticket.ensures
+    (subst (λ j. RelistsNear m t j n asked before (next_at (path_of act) store) old new) c.act_number.ensures
+    (near m t k n asked before after old one two new c.relist_own.ensures.relists c.list_new.ensures.lists
     (subst (λ o. RelistsBoth m o (but t after) two new) c.other.ensures
     (subst (λ o. RelistsBoth m (option_map (λ (x : Ticket). x.0) c.other.result) o two new) (c.other-2.ensures ∙ ap (but t) c.requires.next) c.relist_both.ensures.relists))))
