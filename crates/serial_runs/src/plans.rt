@@ -21,7 +21,7 @@ use crate::laws::{
     records_agree, serial,
 };
 use plan_actors::PlanActors;
-use wave_theory::{arrivals, trails_are_told};
+use wave_theory::{arrivals_are_in_order, trails_are_told};
 
 /// Each finished run of a plan ends in the very state to which a serial run of the same plan leads, by worker 0 alone.
 pub fn plans_are_serial()
@@ -49,7 +49,7 @@ pub fn plans_drive_serially()
 pub fn plans_come_in_order()
     ensures { AtPlans Came }
 {
-    arrivals::<PlanActors>();
+    arrivals_are_in_order::<PlanActors>();
 }
 
 /// The labels tell the trail of each context.

@@ -112,7 +112,7 @@ pub fn label_bounds<T: Acting>()
 {}
 
 /// Who was let in to a context, and whose Enter to it was sent, in the order of the labels.
-pub fn arrivals<T: Acting>()
+pub fn arrivals_are_in_order<T: Acting>()
     ensures { (c : T.Code) → AlwaysOf (T.kind c) Came }
 {}
 

@@ -15,10 +15,10 @@ pub use given::{
     label_bounds_by_jobs, loads, may_run, reads, sends, stoppable, within,
 };
 pub use laws::{
-    arrivals, bounds, by_owners, complete, drives_end, empty_at_end, families, hands_stay,
-    independent, label_bounds, label_counts, listed_for, lists_are_exact, lists_are_sorted,
-    never_stuck, numbers, one_host, one_owner, records, releases_rise, results, rules_pick,
-    tickets, trails, trails_are_told,
+    arrivals_are_in_order, bounds, by_owners, complete, drives_end, empty_at_end, families,
+    hands_stay, independent, label_bounds, label_counts, listed_for, lists_are_exact,
+    lists_are_sorted, never_stuck, numbers, one_host, one_owner, records, releases_rise, results,
+    rules_pick, tickets, trails, trails_are_told,
 };
 pub use movers::{Movers, Walkers};
 pub use shown::{

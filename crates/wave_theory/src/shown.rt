@@ -14,10 +14,10 @@ use crate::given::{
     label_bounds_by_jobs, loads, may_run, reads, sends, stoppable, within,
 };
 use crate::laws::{
-    arrivals, bounds, by_owners, complete, drives_end, empty_at_end, families, hands_stay,
-    independent, label_bounds, label_counts, listed_for, lists_are_exact, lists_are_sorted,
-    never_stuck, numbers, one_host, one_owner, records, releases_rise, results, rules_pick,
-    tickets, trails, trails_are_told,
+    arrivals_are_in_order, bounds, by_owners, complete, drives_end, empty_at_end, families,
+    hands_stay, independent, label_bounds, label_counts, listed_for, lists_are_exact,
+    lists_are_sorted, never_stuck, numbers, one_host, one_owner, records, releases_rise, results,
+    rules_pick, tickets, trails, trails_are_told,
 };
 use crate::movers::{Movers, Walkers};
 
@@ -32,7 +32,7 @@ pub fn at_the_counter() {
     one_owner::<Counter>();
     trails::<Counter>();
     trails_are_told::<Counter>();
-    arrivals::<Counter>();
+    arrivals_are_in_order::<Counter>();
     bounds::<Counter>();
     never_stuck::<Counter>();
     complete::<Counter>();
@@ -61,7 +61,7 @@ pub fn at_movers() {
     one_owner::<Movers>();
     trails::<Movers>();
     trails_are_told::<Movers>();
-    arrivals::<Movers>();
+    arrivals_are_in_order::<Movers>();
     bounds::<Movers>();
     never_stuck::<Movers>();
     complete::<Movers>();
@@ -90,7 +90,7 @@ pub fn at_walkers() {
     one_owner::<Walkers>();
     trails::<Walkers>();
     trails_are_told::<Walkers>();
-    arrivals::<Walkers>();
+    arrivals_are_in_order::<Walkers>();
     bounds::<Walkers>();
     never_stuck::<Walkers>();
     complete::<Walkers>();

@@ -5,4 +5,4 @@ use Rattle.serial_runs.proofs.plans.plans_come_in_order.Goals as goal
 
 pub returns : goal.returns
 returns c = λ plan start fits begins labels s r.
-    c.arrivals.ensures (setting_of plan.program fits.fit fits.verified plan.script.hosts) plan.workers (begin_in plan start) plan.script.batches (begin_fits plan fits start begins) (plan_fits plan fits) labels s r
+    c.arrivals_are_in_order.ensures (setting_of plan.program fits.fit fits.verified plan.script.hosts) plan.workers (begin_in plan start) plan.script.batches (begin_fits plan fits start begins) (plan_fits plan fits) labels s r

@@ -1,4 +1,4 @@
-use Rattle.wave_theory.proofs.laws.arrivals.Goals as goal
+use Rattle.wave_theory.proofs.laws.arrivals_are_in_order.Goals as goal
 use Rattle.wave_theory.proofs.Noted
 
 pub returns : goal.returns
