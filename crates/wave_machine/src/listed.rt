@@ -1,6 +1,6 @@
 //! An engine with the list of what can be done, which is kept from label to label.
 
-ghost use Rattle.std.specs.Prelude.{◌≡◌, ◌≤◌, ◌+◌, ℕ, Some, true, length, slice_get, IfOk, IfErr, OnOk, OnErr};
+ghost use Rattle.std.specs.Prelude.{◌≡◌, ◌↔◌, ◌≤◌, ◌+◌, ℕ, Some, true, length, slice_get, IsTrue, IfOk, IfErr, OnOk, OnErr};
 ghost use Rattle.wave_base.specs.declared.start.Start as start;
 ghost use Rattle.wave_labels.specs.Labels.{label_of};
 ghost use Rattle.script_fold.specs.Runs.{finished_of};
