@@ -1,4 +1,5 @@
 pub mod Begins
+pub mod Behind
 pub mod ElasticProgressed
 pub mod ElasticSteps
 pub mod Gives

@@ -1,8 +1,9 @@
 //! The form that a line's pieces spell.
 
 ghost use Rattle.std.specs.Prelude.{◌≡◌, ◌∷◌, ◌↔◌, [], List, ℕ, true, IsTrue, IsFalse, codes, IfOk, IfSome, IfNone};
+ghost use Rattle.script_reader.specs.inner.Behind.{behind_of};
 ghost use Rattle.script_reader.specs.Forms.{IsOnlyFormOf, HasNoFormOf};
-ghost use Rattle.script_reader.specs.inner.Parts.{is_literal_run, spells_literal, IsLiteralPiece, SpellLiterals, AreOnlyLiterals, AreNoLiterals, IsNumber, IsNoNumber, IsNamed, IsNotNamed, IsTo, IsNotTo, IsMove, IsNoMove, SpellsOnly, SpellsNone};
+ghost use Rattle.script_reader.specs.inner.Parts.{is_literal_run, spells_literal, IsLiteralPiece, SpellLiterals, AreOnlyLiterals, AreNoLiterals, IsNumber, IsNoNumber, IsNamed, IsNotNamed, IsTo, IsNotTo, IsMove, IsNoMove, SpellsOnly, SpellsNone, behind_in};
 ghost use Rattle.script_reader.specs.declared.piece.Piece.TheVariants.{Run, Close};
 
 use crate::bytes::Bytes;
@@ -69,6 +70,23 @@ fn literal_of<'t>(alloc: Global, piece: &Piece<'t>) -> Result<Literal<'t>, OutOf
     }
 }
 
+// What stands behind a literal.
+enum Behind<'a> {
+    More(&'a [Piece<'a>]),
+    End,
+    Wrong,
+}
+
+fn behind_literal<'a>(pieces: &'a [Piece<'a>]) -> Behind<'a>
+    ensures { behind_of result ≡ behind_in pieces.now }
+{
+    match pieces {
+        [Piece::Comma, rest @ ..] => Behind::More(rest),
+        [Piece::Close] => Behind::End,
+        _ => Behind::Wrong,
+    }
+}
+
 fn is_close(pieces: &[Piece<'_>]) -> bool
     ensures { IsTrue result ↔ (pieces.now ≡ Close ∷ []) }
 {
@@ -76,7 +94,7 @@ fn is_close(pieces: &[Piece<'_>]) -> bool
 }
 
 // Whether these pieces spell literals behind an opening parenthesis. Nothing is copied for that.
-fn are_literals(pieces: &[Piece<'_>]) -> bool
+fn are_literals<'a>(pieces: &'a [Piece<'a>]) -> bool
     ensures some { IsTrue result → SpellLiterals pieces.now }
     ensures none { IsFalse result → AreNoLiterals pieces.now }
 {
@@ -91,10 +109,10 @@ fn are_literals(pieces: &[Piece<'_>]) -> bool
         if !spells_literal(piece) {
             return false;
         }
-        match after {
-            [Piece::Comma, more @ ..] => rest = more,
-            [Piece::Close] => return true,
-            _ => return false,
+        match behind_literal(after) {
+            Behind::More(more) => rest = more,
+            Behind::End => return true,
+            Behind::Wrong => return false,
         }
     }
 }
