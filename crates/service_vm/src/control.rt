@@ -16,7 +16,7 @@ use wave_base::{OutOfMemory, TrapKind};
 
 impl Run {
     /// Goes on at an instruction.
-    #[tactic(auto, unfolding(service_verify::specs::Steps::acted))]
+    #[tactic(auto, unfolding(service_verify::specs::Steps::act_move))]
     pub fn jump(&mut self, to: u16)
         ensures did { (program : Program) (at : Span) (fields : List Value) → Did program self.old (instr.Jump to) at fields None self.new fields }
         ensures own { self.new.frames.top.function ≡ self.old.frames.top.function }
@@ -26,7 +26,7 @@ impl Run {
     }
 
     /// Throws the value on top away.
-    #[tactic(auto, unfolding(service_verify::specs::Steps::acted))]
+    #[tactic(auto, unfolding(service_verify::specs::Steps::act_move))]
     pub fn forget(&mut self)
         requires place { self.old.frames.top.place < 2 ^ 63 }
         requires value { 0 < length self.old.frames.top.stack }
@@ -38,7 +38,7 @@ impl Run {
     }
 
     /// Goes on at an instruction where the value on top is false.
-    #[tactic(auto, unfolding(service_verify::specs::Steps::acted))]
+    #[tactic(auto, unfolding(service_verify::specs::Steps::act_move))]
     pub fn branch(&mut self, to: u16)
         requires place { self.old.frames.top.place < 2 ^ 63 }
         requires truth { IsSome (truth_on_top self.old.frames.top.stack) }
@@ -54,7 +54,7 @@ impl Run {
     }
 
     /// Takes a tick, if one is left, and says whether it did.
-    #[tactic(auto, unfolding(service_verify::specs::Steps::acted))]
+    #[tactic(auto, unfolding(service_verify::specs::Steps::act_move))]
     pub fn tick(&mut self) -> bool
         requires place { self.old.frames.top.place < 2 ^ 63 }
         ensures did { result ≡ true → (program : Program) (at : Span) (fields : List Value) → Did program self.old instr.Tick at fields None self.new fields }
@@ -71,7 +71,7 @@ impl Run {
     }
 
     /// Traps where the value on top is false.
-    #[tactic(auto, unfolding(service_verify::specs::Steps::acted))]
+    #[tactic(auto, unfolding(service_verify::specs::Steps::act_move))]
     pub fn demand(&mut self) -> Flow
         requires place { self.old.frames.top.place < 2 ^ 63 }
         requires truth { IsSome (truth_on_top self.old.frames.top.stack) }
@@ -86,7 +86,7 @@ impl Run {
     }
 
     /// A method of the same context begins.
-    #[tactic(auto, unfolding(service_verify::specs::Steps::acted))]
+    #[tactic(auto, unfolding(service_verify::specs::Steps::act_move))]
     pub fn call(&mut self, number: u16, function: &Function) -> Result<(), OutOfMemory>
         requires place { self.old.frames.top.place < 2 ^ 63 }
         requires args { IsSome (taken_values (length function.now.args) [] self.old.frames.top.stack) }
