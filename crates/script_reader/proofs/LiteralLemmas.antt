@@ -118,6 +118,15 @@ more_behind (Open ∷ ps) more e = cc
 more_behind (Run bs ∷ ps) more e = cc
 more_behind (Text t ∷ ps) more e = cc
 
+-- behind a comma, as a part of the pieces
+pub more_part : (after : List Piece) → More (drop 1 after) ≡ behind_in after → behind_in after ≡ More (take (length after - 1) (drop 1 after))
+more_part [] e = cc
+more_part (p ∷ ps) e = sym e ∙ ap More (sym (take_all (length (p ∷ ps) - 1) ps (omega arith)))
+
+pub more_some : (after : List Piece) → length after < 1 → More (drop 1 after) ≡ behind_in after → ⊥
+more_some [] h e = cc
+more_some (p ∷ ps) h e = omega (arith, h)
+
 pub end_behind : (after : List Piece) → behind_in after ≡ End → after ≡ Close ∷ []
 end_behind [] e = cc
 end_behind (Comma ∷ ps) e = cc

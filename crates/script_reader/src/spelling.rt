@@ -1,6 +1,6 @@
 //! The form that a line's pieces spell.
 
-ghost use Rattle.std.specs.Prelude.{◌≡◌, ◌∷◌, ◌↔◌, [], List, ℕ, true, IsTrue, IsFalse, codes, IfOk, IfSome, IfNone};
+ghost use Rattle.std.specs.Prelude.{◌≡◌, ◌∷◌, ◌↔◌, [], List, ℕ, drop, true, IsTrue, IsFalse, codes, IfOk, IfSome, IfNone};
 ghost use Rattle.script_reader.specs.inner.Behind.{behind_of};
 ghost use Rattle.script_reader.specs.Forms.{IsOnlyFormOf, HasNoFormOf};
 ghost use Rattle.script_reader.specs.inner.Parts.{is_literal_run, spells_literal, IsLiteralPiece, SpellLiterals, AreOnlyLiterals, AreNoLiterals, IsNumber, IsNoNumber, IsNamed, IsNotNamed, IsTo, IsNotTo, IsMove, IsNoMove, SpellsOnly, SpellsNone, behind_in};
@@ -71,17 +71,17 @@ fn literal_of<'t>(alloc: Global, piece: &Piece<'t>) -> Result<Literal<'t>, OutOf
 }
 
 // What stands behind a literal.
-enum Behind<'a> {
-    More(&'a [Piece<'a>]),
+enum Behind {
+    More,
     End,
     Wrong,
 }
 
-fn behind_literal<'a>(pieces: &'a [Piece<'a>]) -> Behind<'a>
-    ensures { behind_of result ≡ behind_in pieces.now }
+fn behind_literal(pieces: &[Piece<'_>]) -> Behind
+    ensures { behind_of result (drop 1 pieces.now) ≡ behind_in pieces.now }
 {
     match pieces {
-        [Piece::Comma, rest @ ..] => Behind::More(rest),
+        [Piece::Comma, ..] => Behind::More,
         [Piece::Close] => Behind::End,
         _ => Behind::Wrong,
     }
@@ -94,7 +94,7 @@ fn is_close(pieces: &[Piece<'_>]) -> bool
 }
 
 // Whether these pieces spell literals behind an opening parenthesis. Nothing is copied for that.
-fn are_literals<'a>(pieces: &'a [Piece<'a>]) -> bool
+fn are_literals(pieces: &[Piece<'_>]) -> bool
     ensures some { IsTrue result → SpellLiterals pieces.now }
     ensures none { IsFalse result → AreNoLiterals pieces.now }
 {
@@ -110,10 +110,14 @@ fn are_literals<'a>(pieces: &'a [Piece<'a>]) -> bool
             return false;
         }
         match behind_literal(after) {
-            Behind::More(more) => rest = more,
+            Behind::More => {}
             Behind::End => return true,
             Behind::Wrong => return false,
         }
+        let [_, more @ ..] = after else {
+            return false;
+        };
+        rest = more;
     }
 }
 
