@@ -37,11 +37,11 @@ returns c = λ start s stands.
     let on = c.requires.finished in
     let completes = completes_by c.complete.ensures in
     let finished : Finished (plan_actors m.plan.program) m.plan.workers s = so_finished c.states_are_known.ensures c.heads_are_known.ensures m start s stands (so_done c.states_are_known.ensures c.heads_are_known.ensures m on.0 on.1 on.2 completes on.3) in
-    let f : Told = record { results = c.in_ok-results.field-0; made = c.in_ok-made.field-0; names = c.in_ok-names.field-0; places = c.from_vec.result; shots = c.from_vec-2.result; loads = c.from_vec-3.result } in
+    let f : Told = record { results = c.in_ok-results.field-0; made = c.in_ok-made_tickets.field-0; names = c.in_ok-names.field-0; places = c.from_vec.result; shots = c.from_vec-2.result; loads = c.from_vec-3.result } in
     let there = subst (All (IsPlace m.stores)) (sym c.from_vec.ensures) (subst (λ xs. All (IsPlace xs) c.in_ok-places.places.items) c.deref.ensures.value c.in_ok-places.ensures.there) in
     (c.finished_states_tell.ensures m.plan start stands.fits stands.begins stands.labels s stands.reached finished f).0
     (tells c.states_are_known.ensures c.heads_are_known.ensures completes (loads_by c.loads.ensures) m start s stands finished f
-    (c.in_ok-results.ensures ∙ ap (map (λ (x : Settled). x.result)) c.deref-6.ensures.value) (c.in_ok-made.ensures ∙ ap (map (λ (x : Settled). x.made)) c.deref-7.ensures.value) (c.in_ok-names.ensures ∙ ap (map name_in) c.deref-8.ensures.value)
+    (c.in_ok-results.ensures ∙ ap (map (λ (x : Settled). x.result)) c.deref-6.ensures.value) (c.in_ok-made_tickets.ensures ∙ ap (map (λ (x : Settled). x.made)) c.deref-7.ensures.value) (c.in_ok-names.ensures ∙ ap (map name_in) c.deref-8.ensures.value)
     (subst (λ xs. IsStrictlySortedBy path_cmp (map path_of xs)) (sym c.from_vec.ensures) c.in_ok-places.ensures.ordered) there
     (λ host x p at e. ap (λ xs. list_any (path_eq p) (map path_of xs)) c.from_vec.ensures ∙ c.in_ok-places.ensures.all host x p (ap (λ xs. slice_get xs host) c.deref.ensures.value ∙ at) e)
     (paired_as IsShotOf c.deref-2.result.now m.stores c.deref-3.result.now c.from_vec.result c.in_ok-shots.shots.items c.from_vec-2.result c.deref-2.ensures.value (c.deref-3.ensures.value ∙ sym c.from_vec.ensures) (sym c.from_vec-2.ensures) c.in_ok-shots.ensures)
