@@ -9,7 +9,7 @@ pub returns-in-Ok : goal.returns-in-Ok
 returns-in-Ok c =
     let text = service_of c.args.input.now in
     let read = typed_served text c.parts_of.result.0.now c.in-Ok.field-0.0 c.in-Ok.field-0.1 c.parts_of.ensures.service c.in-Ok.ensures in
-    typed_as {E = Unit {0}} (λ tree due. due ≡ approval) text c.in-Ok.field-0.0 c.in-Ok.field-0.1 approval (Ok c.in_ok-approval-in-Ok.field-0) read c.in_ok-approved-in-Ok.ensures (λ tree t k. only_same approval)
+    typed_as {E = Unit {0}} (λ tree due. due ≡ approval) text c.in-Ok.field-0.0 c.in-Ok.field-0.1 approval (Ok c.in_ok-approval-in-Ok.field-0) read c.in_ok-approval-in-Ok.ensures (λ tree t k. only_same approval)
 
 pub returns : goal.returns
 returns c = refused_due (λ tree due. due ≡ approval) (service_of c.args.input.now) c.parts_of.result.0.now c.in-Err.refusal c.parts_of.ensures.service c.in-Err.ensures
