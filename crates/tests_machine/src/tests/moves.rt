@@ -64,7 +64,13 @@ fn sold_at() -> [Place; 4] {
 fn sells(rt: &impl Abort, alloc: Global, case: &Case, rule: PickRule) -> Result<(), Fail> {
     let (finished, _) = drive_case(rt, alloc, case, rule)?;
     let told = sale_outcome(alloc)?;
-    let outcomes = [reply(7), move_outcome(hall(1), 1), reply(6), told, reply(11)];
+    let outcomes = [
+        reply(7),
+        move_outcome(hall(1), 1),
+        reply(6),
+        told,
+        reply(11),
+    ];
     comes_to(rt, &finished, &outcomes);
     places_are(rt, &finished, &sold_at());
     Ok(())
