@@ -10,43 +10,47 @@ mod second;
 mod traces;
 mod traps;
 
-use crate::tests::rows::{Ends, call_alone, is_text, make_ends};
+use crate::tests::rows::call_alone;
 use std::alloc::Global;
 use std::process::Abort;
 use tests_services::words;
-use wave_base::OutOfMemory;
+use wave_base::{OutOfMemory, Seq};
+use wave_io::{MemSink, MemSource};
 
-/// What a call came to: its status, and its ends with what it wrote.
+/// What a call came to: its status, and what it wrote on the output and as a note.
 #[derive(Drop)]
 struct Answer {
     status: u8,
-    ends: Ends,
+    out: MemSink,
+    notes: MemSink,
 }
 
 // What a call on this thread comes to, for words with a blank between them and an input.
 fn due(rt: &impl Abort, alloc: Global, text: &str, input: &[u8]) -> Result<Answer, OutOfMemory> {
-    let mut ends = make_ends(alloc, input, (4096, 4096), 4_000_000, (0, 0))?;
     let words = words(alloc, text)?;
-    let status = call_alone(
-        alloc,
-        &words,
-        &mut ends.source,
-        &mut ends.out,
-        &mut ends.notes,
-    );
+    let bytes = Seq::from_vec(Vec::from_slice(alloc, input)?);
+    let mut source = MemSource::new(bytes, 4096, Seq::new(alloc));
+    let mut out = MemSink::new(alloc, 4_000_000, 4096, Seq::new(alloc))?;
+    let mut notes = MemSink::new(alloc, 1000, 1000, Seq::new(alloc))?;
+    let status = call_alone(alloc, &words, &mut source, &mut out, &mut notes);
     assert!(rt; status.is_some());
     Ok(Answer {
         status: status.unwrap_or(0),
-        ends,
+        out,
+        notes,
     })
 }
 
 // It has this status, this note and this text.
 fn has(rt: &impl Abort, answer: &Answer, status: u8, note: &[u8], text: &[u8]) {
-    let told = answer.ends.notes.bytes();
-    is_text(rt, told.strip_suffix(b"\n").unwrap_or(told), note);
-    is_text(rt, answer.ends.out.bytes(), text);
+    let told = answer.notes.bytes();
+    equal(rt, told.strip_suffix(b"\n").unwrap_or(told), note);
+    equal(rt, answer.out.bytes(), text);
     assert_eq!(rt; answer.status, status);
+}
+
+fn equal(rt: &impl Abort, one: &[u8], other: &[u8]) {
+    assert_eq!(rt; one, other);
 }
 
 fn join(alloc: Global, pieces: &[&[u8]]) -> Result<Vec<u8>, OutOfMemory> {

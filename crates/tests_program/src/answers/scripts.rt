@@ -1,6 +1,6 @@
 //! Script lines: those that are fine, and what is told of those that aren't.
 
-use super::{Answer, due, has, is_text, join, rows_of, sides};
+use super::{Answer, due, equal, has, join, rows_of, sides};
 use std::alloc::Global;
 use std::process::Abort;
 use std::test::Fail;
@@ -86,7 +86,7 @@ fn answer_of(rt: &impl Abort, alloc: Global, pieces: &[&[u8]]) -> Result<Answer,
 
 fn runs(rt: &impl Abort, alloc: Global, pieces: &[&[u8]]) -> Result<(), OutOfMemory> {
     let answer = answer_of(rt, alloc, pieces)?;
-    is_text(rt, answer.ends.notes.bytes(), b"");
+    equal(rt, answer.notes.bytes(), b"");
     assert_eq!(rt; answer.status, 0);
     Ok(())
 }

@@ -1,11 +1,11 @@
 //! How calls end: words, refusals in their order, faults of streams, the greatest input.
 
-use super::rows::{Row, call, call_alone, holds, is_text, make_ends, plain};
+use super::rows::{Row, bytes, call, call_alone, call_with, calls, holds, plain};
 use super::services::{FORMS, FORMS_PRINTED, TICK};
 use std::test::Fail;
 use tests_services::{MARKET, words};
-use wave_base::OutOfMemory;
-use wave_io::OpenGate;
+use wave_base::{OutOfMemory, Seq};
+use wave_io::{MemSink, MemSource, OpenGate};
 
 /// What is told of a service alone.
 #[test]
@@ -119,20 +119,22 @@ fn loads_read_nothing(rt: HostRuntime) -> Result<(), Fail> {
     let alloc = rt.alloc();
     let summary = b"events 2211\nreplies 1865\ntraps 0\nmoved 341\nabsent 4\ntotal -5103\n";
     for (text, front) in [("gen 7", MARKET), ("load 7", summary.as_slice())] {
-        let mut ends = make_ends(alloc, TICK, (16, 4096), 100_000, (1, 0))?;
         let words = words(alloc, text)?;
+        let mut source = MemSource::new(bytes(alloc, TICK)?, 16, calls(alloc, &[1])?);
+        let mut out = MemSink::new(alloc, 100_000, 4096, Seq::new(alloc))?;
+        let mut notes = MemSink::new(alloc, 100, 4, Seq::new(alloc))?;
         let got = call(
             &rt,
             alloc,
-            Ok(words),
-            &mut ends.source,
-            &mut ends.out,
-            &mut ends.notes,
+            &words,
+            &mut source,
+            &mut out,
+            &mut notes,
             &OpenGate,
         );
         assert_eq!(rt; got, 0);
-        assert!(rt; ends.out.bytes().starts_with(front));
-        is_text(&rt, ends.notes.bytes(), b"");
+        assert!(rt; out.bytes().starts_with(front));
+        assert_eq!(rt; notes.bytes(), b"".as_slice());
     }
     Ok(())
 }
@@ -150,18 +152,14 @@ fn one_thread(rt: HostRuntime) -> Result<(), Fail> {
         ("seq", Some(0)),
         ("walk", Some(2)),
     ] {
-        let mut ends = make_ends(alloc, TICK, (16, 100), 1000, (0, 0))?;
         let words = words(alloc, text)?;
-        let got = call_alone(
-            alloc,
-            &words,
-            &mut ends.source,
-            &mut ends.out,
-            &mut ends.notes,
-        );
+        let mut source = MemSource::new(bytes(alloc, TICK)?, 16, Seq::new(alloc));
+        let mut out = MemSink::new(alloc, 1000, 100, Seq::new(alloc))?;
+        let mut notes = MemSink::new(alloc, 100, 100, Seq::new(alloc))?;
+        let got = call_alone(alloc, &words, &mut source, &mut out, &mut notes);
         assert_eq!(rt; got, status);
-        assert_eq!(rt; ends.out.bytes().is_empty(), status != Some(0));
-        assert_eq!(rt; ends.notes.bytes().is_empty(), status != Some(2));
+        assert_eq!(rt; out.bytes().is_empty(), status != Some(0));
+        assert_eq!(rt; notes.bytes().is_empty(), status != Some(2));
     }
     Ok(())
 }
@@ -251,32 +249,25 @@ fn faults(rt: HostRuntime) -> Result<(), Fail> {
 #[test]
 fn runs_by_the_top_call(rt: HostRuntime) -> Result<(), Fail> {
     let alloc = rt.alloc();
-    let mut ends = make_ends(alloc, TICK, (16, 4), 10_000, (0, 0))?;
     let words = words(alloc, "run")?;
-    let status = call(
-        &rt,
-        alloc,
-        Ok(words),
-        &mut ends.source,
-        &mut ends.out,
-        &mut ends.notes,
-        &OpenGate,
-    );
+    let mut source = MemSource::new(bytes(alloc, TICK)?, 16, Seq::new(alloc));
+    let mut out = MemSink::new(alloc, 10_000, 4, Seq::new(alloc))?;
+    let mut notes = MemSink::new(alloc, 10_000, 4, Seq::new(alloc))?;
+    let status = call_with(&rt, alloc, Ok(words), &mut source, &mut out, &mut notes);
     assert_eq!(rt; status, 0);
-    is_text(&rt, ends.out.bytes(), b"#1 hit = 1\ndone 1\n");
+    assert_eq!(rt; out.bytes(), b"#1 hit = 1\ndone 1\n".as_slice());
     let Err(refused) = Vec::<u64>::with_capacity(alloc, usize::MAX) else {
         return Err("so much memory".into());
     };
-    let status = call(
+    let status = call_with(
         &rt,
         alloc,
         Err(OutOfMemory::from(refused)),
-        &mut ends.source,
-        &mut ends.out,
-        &mut ends.notes,
-        &OpenGate,
+        &mut source,
+        &mut out,
+        &mut notes,
     );
     assert_eq!(rt; status, 7);
-    is_text(&rt, ends.notes.bytes(), b"OutOfMemory\n");
+    assert_eq!(rt; notes.bytes(), b"OutOfMemory\n".as_slice());
     Ok(())
 }

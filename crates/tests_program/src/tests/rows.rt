@@ -2,7 +2,7 @@
 
 ghost use Rattle.std.specs.Prelude.{◌<◌};
 
-use eventwave::{eventwave_alone, start};
+use eventwave::{eventwave, eventwave_alone, start};
 use std::alloc::Global;
 use std::process::Abort;
 use std::sync::Wait;
@@ -12,64 +12,27 @@ use tests_services::words;
 use wave_base::{OutOfMemory, Seq, Words};
 use wave_io::{Gate, MemSink, MemSource, OpenGate};
 
-/// What a call reads, and where it writes what it gives and its note.
-#[derive(Drop)]
-pub struct Ends {
-    pub source: MemSource,
-    pub out: MemSink,
-    pub notes: MemSink,
+/// A text as a list of bytes.
+pub fn bytes(alloc: Global, text: &[u8]) -> Result<Seq<u8>, OutOfMemory> {
+    Ok(Seq::from_vec(Vec::from_slice(alloc, text)?))
 }
 
-// A source of these bytes, of which so many come at a time, and whose read of this number fails (0 is none).
-fn source_of(
-    alloc: Global,
-    bytes: &[u8],
-    most: usize,
-    failing: u64,
-) -> Result<MemSource, OutOfMemory>
-    requires { 0 < most }
-{
-    let bytes = Seq::from_slice(alloc, bytes)?;
-    let failing = Seq::from_slice(alloc, &[failing])?;
-    Ok(MemSource::new(bytes, most, failing))
+/// The numbers of calls that are to fail.
+pub fn calls(alloc: Global, numbers: &[u64]) -> Result<Seq<u64>, OutOfMemory> {
+    Ok(Seq::from_vec(Vec::from_slice(alloc, numbers)?))
 }
 
-// A sink with so much room, which takes so many bytes at a time, and whose write of this number fails (0 is none).
-fn sink_of(alloc: Global, room: usize, most: usize, failing: u64) -> Result<MemSink, OutOfMemory>
-    requires { 0 < most }
-{
-    let failing = Seq::from_slice(alloc, &[failing])?;
-    MemSink::new(alloc, room, most, failing)
-}
-
-/// A source of an input, and sinks: how many bytes go in and out at a time, the room for what comes out, and which read and write fail (0 is none).
-pub fn make_ends(
-    alloc: Global,
-    input: &[u8],
-    most: (usize, usize),
-    room: usize,
-    failing: (u64, u64),
-) -> Result<Ends, OutOfMemory>
-    requires comes { 0 < most.0 }
-    requires goes { 0 < most.1 }
-{
-    let source = source_of(alloc, input, most.0, failing.0)?;
-    let out = sink_of(alloc, room, most.1, failing.1)?;
-    let notes = sink_of(alloc, 10_000, most.1, 0)?;
-    Ok(Ends { source, out, notes })
-}
-
-/// The top call, for words that may have found no memory. What its contract says stands in these two functions alone, not in each test.
+/// The top call. What its contract says stands in these three functions alone, not in each test.
 pub fn call<R: Threads + Wait + Sync, G: Gate + Sync>(
     rt: &R,
     alloc: Global,
-    words: Result<Words, OutOfMemory>,
+    words: &Words,
     source: &mut MemSource,
     out: &mut MemSink,
     notes: &mut MemSink,
     gate: &G,
 ) -> u8 {
-    start(rt, alloc, words, source, out, notes, gate)
+    eventwave(rt, alloc, words, source, out, notes, gate)
 }
 
 /// The same on this thread alone.
@@ -81,6 +44,18 @@ pub fn call_alone(
     notes: &mut MemSink,
 ) -> Option<u8> {
     eventwave_alone(alloc, words, source, out, notes)
+}
+
+/// The same for words that may have found no memory.
+pub fn call_with<R: Threads + Wait + Sync>(
+    rt: &R,
+    alloc: Global,
+    words: Result<Words, OutOfMemory>,
+    source: &mut MemSource,
+    out: &mut MemSink,
+    notes: &mut MemSink,
+) -> u8 {
+    start(rt, alloc, words, source, out, notes, &OpenGate)
 }
 
 /// A run on some words: what comes in, which read and write fail (0 is none), and what has to come out.
@@ -95,32 +70,32 @@ pub struct Row<'a> {
     pub note: &'a [u8],
 }
 
-/// What was written is what has to be. Texts are compared here alone, not in each test.
-pub fn is_text(rt: &impl Abort, written: &[u8], wanted: &[u8]) {
-    assert_eq!(rt; written, wanted);
-}
-
 /// The run of a row comes to what has to come out.
 pub fn holds<R: Abort + Threads + Wait + Sync>(
     rt: &R,
     alloc: Global,
     row: &Row,
 ) -> Result<(), OutOfMemory> {
-    let failing = (row.failing_read, row.failing_write);
-    let mut ends = make_ends(alloc, row.input, (16, 4), 10_000, failing)?;
     let words = words(alloc, row.words)?;
+    let mut source = MemSource::new(
+        bytes(alloc, row.input)?,
+        16,
+        calls(alloc, &[row.failing_read])?,
+    );
+    let mut out = MemSink::new(alloc, 10_000, 4, calls(alloc, &[row.failing_write])?)?;
+    let mut notes = MemSink::new(alloc, 10_000, 4, Seq::new(alloc))?;
     let got = call(
         rt,
         alloc,
-        Ok(words),
-        &mut ends.source,
-        &mut ends.out,
-        &mut ends.notes,
+        &words,
+        &mut source,
+        &mut out,
+        &mut notes,
         &OpenGate,
     );
     assert_eq!(rt; got, row.status);
-    is_text(rt, ends.out.bytes(), row.out);
-    is_text(rt, ends.notes.bytes(), row.note);
+    assert_eq!(rt; out.bytes(), row.out);
+    assert_eq!(rt; notes.bytes(), row.note);
     Ok(())
 }
 
@@ -132,18 +107,12 @@ pub fn ran_on<R: Threads + Wait + Sync, G: Gate + Sync>(
     input: &[u8],
     gate: &G,
 ) -> Result<(u8, MemSink), OutOfMemory> {
-    let mut ends = make_ends(alloc, input, (4096, 100), 100_000, (0, 0))?;
     let words = words(alloc, text)?;
-    let status = call(
-        rt,
-        alloc,
-        Ok(words),
-        &mut ends.source,
-        &mut ends.out,
-        &mut ends.notes,
-        gate,
-    );
-    Ok((status, ends.out))
+    let mut source = MemSource::new(bytes(alloc, input)?, 4096, Seq::new(alloc));
+    let mut out = MemSink::new(alloc, 100_000, 100, Seq::new(alloc))?;
+    let mut notes = MemSink::new(alloc, 100, 100, Seq::new(alloc))?;
+    let status = call(rt, alloc, &words, &mut source, &mut out, &mut notes, gate);
+    Ok((status, out))
 }
 
 /// A row in which no read and no write fails.
@@ -244,16 +213,18 @@ pub fn break_call<R: Threads + Wait + Sync>(
 ) -> Result<(u8, MemSink, MemSink), OutOfMemory>
     requires { 0 < piece }
 {
-    let mut ends = make_ends(alloc, input, (4096, piece), 10_000, (0, failing_write))?;
     let words = words(alloc, text)?;
+    let mut source = MemSource::new(bytes(alloc, input)?, 4096, Seq::new(alloc));
+    let mut out = MemSink::new(alloc, 10_000, piece, calls(alloc, &[failing_write])?)?;
+    let mut notes = MemSink::new(alloc, 100, 100, Seq::new(alloc))?;
     let status = call(
         rt,
         alloc,
-        Ok(words),
-        &mut ends.source,
-        &mut ends.out,
-        &mut ends.notes,
+        &words,
+        &mut source,
+        &mut out,
+        &mut notes,
         &OpenGate,
     );
-    Ok((status, ends.out, ends.notes))
+    Ok((status, out, notes))
 }
