@@ -1,6 +1,6 @@
 // Turns under a kept lock.
 ghost use Rattle.std.specs.Prelude.{◌≡◌, ◌<◌};
-ghost use Rattle.kept_lock.specs.Locks.{known, IsPassOf};
+ghost use Rattle.kept_lock.specs.Locks.{knowledge, IsPassOf};
 
 use crate::tally::{Tally, share_of};
 use kept_lock::{KeptLock, Pass};
@@ -43,7 +43,7 @@ fn jobs<'l>(
     turns: u32,
     threads: u8,
 ) -> Result<Vec<Job<'l>>, OutOfMemory>
-    requires pass { IsPassOf lock.now first.old × ((known first.old).number ≡ 0) × ((known first.old).passes ≡ 1) }
+    requires pass { IsPassOf lock.now first.old × ((knowledge first.old).number ≡ 0) × ((knowledge first.old).passes ≡ 1) }
     requires some { 0 < threads }
     ensures pass { IsPassOf lock.now first.new }
 {

@@ -29,7 +29,7 @@ use Rattle.std.specs.Cmp.Lexicographic.{pointwise}
 use Rattle.std.proofs.lemmas.Bool.{cases_lt}
 use Rattle.std.proofs.lemmas.List.{length-replicate}
 use Rattle.std.proofs.lemmas.Option.{slice_get_within}
-use Rattle.service_verify.specs.Points.{Table, agreed, arrived_at, arrival, arrivals, visited_then, first_point, first_table, visit, judged_from, judged_function}
+use Rattle.service_verify.specs.Points.{Table, agreement, arrived_at, arrival, arrivals, visited_then, first_point, first_table, visit, judged_from, judged_function}
 use Rattle.service_verify.specs.Rules.{takes_only}
 use Rattle.wave_base.specs.Shapes.{is_child_class}
 use Rattle.service_verify.proofs.Taking.{kinds_eq_refl}
@@ -132,9 +132,9 @@ module _ (program : Program) (number : ℕ) (function : Function) (ls : List Lin
   set_long (z ∷ t) zero x = refl
   set_long (z ∷ t) (suc n) x = ap suc (set_long t n x)
 
-  agreed_same : (p q : Point) (t : Table) → q ≡ p → agreed p q t ≡ Ok t
+  agreed_same : (p q : Point) (t : Table) → q ≡ p → agreement p q t ≡ Ok t
   agreed_same p q t e =
-      ap (λ q. agreed p q t) e
+      ap (λ q. agreement p q t) e
       ∙ ap (λ b. must rule.Stack b (must rule.Kind (p.class.0 == p.class.0) (must rule.Kind (pointwise kind_eq p.stack p.stack) (Ok t)))) (number_self (length p.stack))
       ∙ ap (λ b. must rule.Kind b (must rule.Kind (pointwise kind_eq p.stack p.stack) (Ok t))) (number_self p.class.0)
       ∙ ap (λ b. must rule.Kind b (Ok t)) (kinds_eq_refl p.stack)

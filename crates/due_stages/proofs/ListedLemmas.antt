@@ -11,7 +11,7 @@ use Rattle.wave_base.specs.declared.script.Script.{Script}
 use Rattle.wave_base.specs.declared.shape.Shape.{Shape}
 use Rattle.wave_base.specs.declared.shown.Shown.{Shown}
 use Rattle.wave_base.specs.declared.start.Start.{Start}
-use Rattle.wave_base.specs.Fold.{Head, created_lines, first_head, made, next_job, with_done}
+use Rattle.wave_base.specs.Fold.{Head, created_lines, first_head, created_tickets, next_job, with_done}
 use Rattle.wave_base.specs.Starts.{start_tree}
 use Rattle.script_fold.specs.Lines.{Meaning, most_jobs, name_of}
 use Rattle.script_fold.specs.Runs.{finished_of, ticket_of, whole_run}
@@ -30,7 +30,7 @@ none_is : {A : Type 0} (o : Option A) → is_none o ≡ true → o ≡ None
 none_is None e = refl
 none_is (Some x) e = cc
 
-made_many : (first : ℕ) (h : Head Line) (cs : List (List Line)) → length (made first h cs) ≡ length cs
+made_many : (first : ℕ) (h : Head Line) (cs : List (List Line)) → length (created_tickets first h cs) ≡ length cs
 made_many first h [] = refl
 made_many first h (c ∷ cs) = ap suc (made_many first (with_done h c) cs)
 
@@ -49,7 +49,7 @@ module _ (meaning : Meaning) (shape : Shape) (start : Start) (a : Script) (c : C
   pub as_many_made : length (finished_of meaning shape start a).made ≡ length (finished_of meaning shape start a).results
   as_many_made =
       let created : List (List Line) = map created_lines (whole_run meaning shape start a).results in
-      length-map (made start.next.0 (first_head a.batches) created) (map ticket_of)
+      length-map (created_tickets start.next.0 (first_head a.batches) created) (map ticket_of)
       ∙ made_many start.next.0 (first_head a.batches) created
       ∙ length-map (whole_run meaning shape start a).results created_lines
 

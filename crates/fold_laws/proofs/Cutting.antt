@@ -11,7 +11,7 @@ use Rattle.wave_base.specs.declared.script.Script.{Script}
 use Rattle.wave_base.specs.declared.shape.Shape.{Shape}
 use Rattle.wave_base.specs.declared.start.Start.{Start}
 use Rattle.wave_base.specs.declared.value.Value.{Value}
-use Rattle.wave_base.specs.Fold.{first_head, made, next_job, is_over, created_lines}
+use Rattle.wave_base.specs.Fold.{first_head, created_tickets, next_job, is_over, created_lines}
 use Rattle.wave_base.specs.Paths.{path_eq}
 use Rattle.wave_base.specs.Places.{after_job, places_after, move_of, load_of}
 use Rattle.wave_base.specs.Scripts.{IsScript}
@@ -103,8 +103,8 @@ module _ (shape : Shape) (meaning : Meaning) (FitsTree : Tree (List Value) → T
     -- both, job by job
     record Parts : Type 0 where
       fold : whole_run meaning shape start (both a b) ≡ joint_progress V W
-      tickets : made start.next.0 (first_head (a.batches ++ b.batches)) (map created_lines (V.results ++ W.results))
-          ≡ made start.next.0 (first_head a.batches) (map created_lines V.results) ++ made (start.next.0 + V.head.done) (first_head b.batches) (map created_lines W.results)
+      tickets : created_tickets start.next.0 (first_head (a.batches ++ b.batches)) (map created_lines (V.results ++ W.results))
+          ≡ created_tickets start.next.0 (first_head a.batches) (map created_lines V.results) ++ created_tickets (start.next.0 + V.head.done) (first_head b.batches) (map created_lines W.results)
 
     parts : Parts
     unfolding whole_run
@@ -118,7 +118,7 @@ module _ (shape : Shape) (meaning : Meaning) (FitsTree : Tree (List Value) → T
         let j = joins meaning start.next.0 u.next.0 (start_tree shape start) a.batches b.batches c.full na nb ends other_ends in
         record {
           fold = ap (after_jobs meaning shape start (both a b)) (most_both meaning start.next.0 u.next.0 (start_tree shape start) a.batches b.batches c.full) ∙ j.fold ∙ ap (λ t. joint_progress left (after t)) (sym c.tree);
-          tickets = subst (λ t. made start.next.0 (first_head (a.batches ++ b.batches)) (map created_lines (left.results ++ (after t).results)) ≡ made start.next.0 (first_head a.batches) (map created_lines left.results) ++ made (start.next.0 + left.head.done) (first_head b.batches) (map created_lines (after t).results)) (sym c.tree) j.tickets;
+          tickets = subst (λ t. created_tickets start.next.0 (first_head (a.batches ++ b.batches)) (map created_lines (left.results ++ (after t).results)) ≡ created_tickets start.next.0 (first_head a.batches) (map created_lines left.results) ++ created_tickets (start.next.0 + left.head.done) (first_head b.batches) (map created_lines (after t).results)) (sym c.tree) j.tickets;
         }
 
     abbrev first_told : Finished
@@ -135,10 +135,10 @@ module _ (shape : Shape) (meaning : Meaning) (FitsTree : Tree (List Value) → T
 
     made_same : (finished_of meaning shape start (both a b)).made ≡ first_told.made ++ other_told.made
     made_same =
-        ap (λ rs. map (map ticket_of) (made start.next.0 (first_head (a.batches ++ b.batches)) (map created_lines rs))) results_same
+        ap (λ rs. map (map ticket_of) (created_tickets start.next.0 (first_head (a.batches ++ b.batches)) (map created_lines rs))) results_same
         ∙ ap (map (map ticket_of)) parts.tickets
-        ∙ map-append (map ticket_of) (made start.next.0 (first_head a.batches) (map created_lines V.results)) (made (start.next.0 + V.head.done) (first_head b.batches) (map created_lines W.results))
-        ∙ ap (λ n. first_told.made ++ map (map ticket_of) (made (start.next.0 + n) (first_head b.batches) (map created_lines W.results))) (sym sane.results)
+        ∙ map-append (map ticket_of) (created_tickets start.next.0 (first_head a.batches) (map created_lines V.results)) (created_tickets (start.next.0 + V.head.done) (first_head b.batches) (map created_lines W.results))
+        ∙ ap (λ n. first_told.made ++ map (map ticket_of) (created_tickets (start.next.0 + n) (first_head b.batches) (map created_lines W.results))) (sym sane.results)
 
     pub is_joined : AreJoined first_told other_told (finished_of meaning shape start (both a b))
     is_joined = record {

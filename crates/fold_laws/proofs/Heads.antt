@@ -2,7 +2,7 @@
 use Rattle.std.proofs.Common.{◌≡◌, ◌≤◌, ◌<◌, ◌+◌, ◌⊎◌, inl, inr, ℕ, zero, suc, Bool, true, false, if◌then◌else◌, List, [], ◌∷◌, ◌++◌, length, None, slice_get, All, nat_lt, refl, sym, ap, subst, ◌∙◌, arith, append-nil, append_assoc, length-append, ltb-false, lt-ltb, le-ltb}
 use Rattle.std.proofs.lemmas.Bool.{ltb-true}
 use Rattle.std.proofs.lemmas.List.Elements.{All-head, All-tail}
-use Rattle.wave_base.specs.Fold.{Head, begun, next_batch, first_head, with_done, next_job, head_after, tickets_from, tickets_of, made}
+use Rattle.wave_base.specs.Fold.{Head, begun, next_batch, first_head, with_done, next_job, head_after, tickets_from, tickets_of, created_tickets}
 
 module _ {J : Type 0} where
   abbrev pub Full : List (List J) → Type 0
@@ -150,13 +150,13 @@ module _ {J : Type 0} where
         ∙ shifted_next (record { known = []; later = bs; done = 0 })
 
     -- the tickets count on
-    pub made_shifted : (first : ℕ) (w : Head J) (cs : List (List J)) → made first (shifted v w) cs ≡ made (first + v.done) w cs
+    pub made_shifted : (first : ℕ) (w : Head J) (cs : List (List J)) → created_tickets first (shifted v w) cs ≡ created_tickets (first + v.done) w cs
     made_shifted first w [] = refl
     made_shifted first w (c ∷ cs) =
         let from : first + length (v.known ++ w.known) ≡ first + v.done + length w.known = omega (arith, over.all, length-append v.known w.known) in
-        (λ i. tickets_from (from i) (length c) ∷ made first (shifted_done w c i) cs) ∙ ap (λ ts. tickets_of (first + v.done) w c ∷ ts) (made_shifted first (with_done w c) cs)
+        (λ i. tickets_from (from i) (length c) ∷ created_tickets first (shifted_done w c i) cs) ∙ ap (λ ts. tickets_of (first + v.done) w c ∷ ts) (made_shifted first (with_done w c) cs)
 
-  pub made_append : (first : ℕ) (h : Head J) (cs ds : List (List J)) → made first h (cs ++ ds) ≡ made first h cs ++ made first (head_after h cs) ds
+  pub made_append : (first : ℕ) (h : Head J) (cs ds : List (List J)) → created_tickets first h (cs ++ ds) ≡ created_tickets first h cs ++ created_tickets first (head_after h cs) ds
   made_append first h [] ds = refl
   made_append first h (c ∷ cs) ds = ap (λ ts. tickets_of first h c ∷ ts) (made_append first (with_done h c) cs ds)
 

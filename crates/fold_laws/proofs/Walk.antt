@@ -6,7 +6,7 @@ use Rattle.std.proofs.lemmas.Option.{slice_get_within}
 use Rattle.wave_base.specs.declared.outcome.EventResult.{EventResult}
 use Rattle.wave_base.specs.declared.script.Line.{Line}
 use Rattle.wave_base.specs.declared.value.Value.{Value}
-use Rattle.wave_base.specs.Fold.{Head, Ran, Progress, first_head, with_done, next_job, head_after, made, tickets_of, first_progress, with_result, with_job, one_more, fold_jobs, created_lines}
+use Rattle.wave_base.specs.Fold.{Head, Ran, Progress, first_head, with_done, next_job, head_after, created_tickets, tickets_of, first_progress, with_result, with_job, one_more, fold_jobs, created_lines}
 use Rattle.wave_base.specs.Tree.{Tree}
 use Rattle.wave_theory.proofs.Basics.{none_not}
 use Rattle.wave_theory.proofs.Folds.{with_done_done}
@@ -103,7 +103,7 @@ module _ (meaning : Meaning) (first other : ℕ) (tree : Tree (List Value)) (ls 
 
   -- the tickets of what was created, in both runs
   abbrev Tickets : Run → Type 0
-  Tickets w = made first (first_head (ls ++ bs)) (created_by w.results) ≡ made first (first_head ls) (created_by w.results)
+  Tickets w = created_tickets first (first_head (ls ++ bs)) (created_by w.results) ≡ created_tickets first (first_head ls) (created_by w.results)
 
   -- the head of both, after these results
   abbrev Heads : Run → Head Line → Type 0
@@ -169,12 +169,12 @@ module _ (meaning : Meaning) (first other : ℕ) (tree : Tree (List Value)) (ls 
 
     tickets_ran : Tickets (A n) → Heads (A n) (more bs (A n).head) → Tickets ran
     tickets_ran t h =
-        ap (made first (first_head (ls ++ bs))) created_push
+        ap (created_tickets first (first_head (ls ++ bs))) created_push
         ∙ made_append first (first_head (ls ++ bs)) (created_by (A n).results) (created_lines x.result ∷ [])
         ∙ (λ i. t i ++ tickets_of first ((h ∙ is_busy) i) (created_lines x.result) ∷ [])
-        ∙ ap (λ g. made first (first_head ls) (created_by (A n).results) ++ tickets_of first g (created_lines x.result) ∷ []) (sym sane.heads)
+        ∙ ap (λ g. created_tickets first (first_head ls) (created_by (A n).results) ++ tickets_of first g (created_lines x.result) ∷ []) (sym sane.heads)
         ∙ sym (made_append first (first_head ls) (created_by (A n).results) (created_lines x.result ∷ []))
-        ∙ sym (ap (made first (first_head ls)) created_push)
+        ∙ sym (ap (created_tickets first (first_head ls)) created_push)
 
     goes_before : (A n).head.done ≡ n → C n ≡ ext (A n) → Tickets (A n) → Heads (A n) (more bs (A n).head) → Along (suc n)
     goes_before done same tickets heads =
@@ -222,7 +222,7 @@ module _ (meaning : Meaning) (first other : ℕ) (tree : Tree (List Value)) (ls 
   module _ (na nb : ℕ) (ends : next_job (A na).head ≡ None) (other_ends : next_job (B (A na).tree nb).head ≡ None) where
     pub record Joins : Type 0 where
       pub fold : C (na + nb) ≡ joint_progress (A na) (B (A na).tree nb)
-      pub tickets : made first (first_head (ls ++ bs)) (created_by ((A na).results ++ (B (A na).tree nb).results)) ≡ made first (first_head ls) (created_by (A na).results) ++ made (first + (A na).head.done) (first_head bs) (created_by (B (A na).tree nb).results)
+      pub tickets : created_tickets first (first_head (ls ++ bs)) (created_by ((A na).results ++ (B (A na).tree nb).results)) ≡ created_tickets first (first_head ls) (created_by (A na).results) ++ created_tickets (first + (A na).head.done) (first_head bs) (created_by (B (A na).tree nb).results)
 
     abbrev at_end : A (na + nb) ≡ A na
     at_end = ap A (swap na nb) ∙ stays_long meaning first ls tree na nb ends
@@ -235,10 +235,10 @@ module _ (meaning : Meaning) (first other : ℕ) (tree : Tree (List Value)) (ls 
     joined (behind e m count same tickets heads) = record {
       fold = same ∙ ap (λ (w : Run). joint_progress w (B w.tree m)) at_end ∙ ap (joint_progress (A na)) rest;
       tickets =
-          ap (made first (first_head (ls ++ bs))) (map-append created_lines (A na).results (B (A na).tree nb).results)
+          ap (created_tickets first (first_head (ls ++ bs))) (map-append created_lines (A na).results (B (A na).tree nb).results)
           ∙ made_append first (first_head (ls ++ bs)) (created_by (A na).results) (created_by (B (A na).tree nb).results)
-          ∙ (λ i. subst Tickets at_end tickets i ++ made first (subst (λ w. Heads w (shifted w.head (first_head bs))) at_end heads i) (created_by (B (A na).tree nb).results))
-          ∙ ap (λ ts. made first (first_head ls) (created_by (A na).results) ++ ts) (made_shifted (A na).head (over_head na ends) first (first_head bs) (created_by (B (A na).tree nb).results));
+          ∙ (λ i. subst Tickets at_end tickets i ++ created_tickets first (subst (λ w. Heads w (shifted w.head (first_head bs))) at_end heads i) (created_by (B (A na).tree nb).results))
+          ∙ ap (λ ts. created_tickets first (first_head ls) (created_by (A na).results) ++ ts) (made_shifted (A na).head (over_head na ends) first (first_head bs) (created_by (B (A na).tree nb).results));
     }
       where
         enough : nb ≤ m

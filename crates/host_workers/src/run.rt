@@ -7,7 +7,7 @@ ghost use Rattle.wave_io.specs.Causes.{Rose};
 ghost use Rattle.wave_io.specs.Streams.{AppendsFront};
 ghost use Rattle.plan_actors.specs.Plans.{Fits, FitsStart};
 ghost use Rattle.wave_effects.specs.Plans.{plan_of};
-ghost use Rattle.kept_lock.specs.Locks.{name_of, known, IsPassOf};
+ghost use Rattle.kept_lock.specs.Locks.{name_of, knowledge, IsPassOf};
 ghost use Rattle.wave_board.specs.Boards.{labels_in};
 ghost use Rattle.wave_effects.specs.Machines.{IsFinishedRun};
 ghost use Rattle.host_workers.specs.Passes.{IsReady};
@@ -102,10 +102,10 @@ fn run_workers<'l, 'p, R: Threads + Wait + Sync, G: Gate + Sync, K: Sink + Send>
     requires plan { (name_of post.now.lock.now).plan.now ≡ post.now.plan.now }
     requires from { (name_of post.now.lock.now).start.now.next ≡ from }
     requires writer { post.now.number ≡ record { 0 = 0 } }
-    requires ready { IsReady (name_of post.now.lock.now) (known first.old) (record { 0 = 0 }) }
-    requires one { (known first.old).passes ≡ 1 }
+    requires ready { IsReady (name_of post.now.lock.now) (knowledge first.old) (record { 0 = 0 }) }
+    requires one { (knowledge first.old).passes ≡ 1 }
     ensures of_lock { IsPassOf post.now.lock.now first.new }
-    ensures finished { OnOk result (IsFinishedRun (plan_of (name_of post.now.lock.now).plan.now) (name_of post.now.lock.now).start.now (labels_in (known first.new).seen)) }
+    ensures finished { OnOk result (IsFinishedRun (plan_of (name_of post.now.lock.now).plan.now) (name_of post.now.lock.now).start.now (labels_in (knowledge first.new).seen)) }
     ensures lines { OnOk result (Appends (K.written out.old) (K.written out.new) (event_lines post.now.plan.now (name_of post.now.lock.now).start.now)) }
     ensures front { OnErr result (AppendsFront (K.written out.old) (K.written out.new) (event_lines post.now.plan.now (name_of post.now.lock.now).start.now)) }
     ensures fault { IsErrOf result RunError.WriteFault → Rose (K.faults out.old) (K.faults out.new) }
@@ -128,7 +128,7 @@ fn parts_of<'p, R: Wait>(
     first: Pass<Board<'p>>,
 ) -> Result<(Finished, LabelLog), OutOfMemory>
     requires of_lock { IsPassOf lock first }
-    requires finished { IsFinishedRun (plan_of (name_of lock).plan.now) (name_of lock).start.now (labels_in (known first).seen) }
+    requires finished { IsFinishedRun (plan_of (name_of lock).plan.now) (name_of lock).start.now (labels_in (knowledge first).seen) }
     ensures { IfOk result (λ r. IsWholeRun (name_of lock.entry).plan.now (name_of lock.entry).start.now r) }
 {
     finished_states_tell();

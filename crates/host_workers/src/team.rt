@@ -1,7 +1,7 @@
 // The workers of a plan, each in a thread of its own where one can be made.
 ghost use Rattle.std.specs.Prelude.{◌≡◌, ◌≢◌, ℕ, IfSome, IsSome, List, Option};
 ghost use Rattle.std.specs.Thread.{IsSync};
-ghost use Rattle.kept_lock.specs.Locks.{name_of, known, IsPassOf};
+ghost use Rattle.kept_lock.specs.Locks.{name_of, knowledge, IsPassOf};
 ghost use Rattle.host_workers.specs.Passes.{IsReady};
 ghost use Rattle.host_workers.specs.inner.Teams.{HasEnded, IsAtPost, IsSeated};
 ghost use Rattle.host_workers.specs.inner.Writing.{AreWritten, Stands};
@@ -33,10 +33,10 @@ pub(crate) fn helpers_of<'l, 'p, R, G>(
 ) -> Result<Vec<Helper<'l, 'p, R, G>>, OutOfMemory>
     requires of_lock { IsPassOf post.now.lock.now first.old }
     requires plan { (name_of post.now.lock.now).plan.now ≡ post.now.plan.now }
-    requires ready { IsReady (name_of post.now.lock.now) (known first.old) (record { 0 = 0 }) }
-    requires one { (known first.old).passes ≡ 1 }
+    requires ready { IsReady (name_of post.now.lock.now) (knowledge first.old) (record { 0 = 0 }) }
+    requires one { (knowledge first.old).passes ≡ 1 }
     ensures of_lock { IsPassOf post.now.lock.now first.new }
-    ensures ready { IsReady (name_of post.now.lock.now) (known first.new) (record { 0 = 0 }) }
+    ensures ready { IsReady (name_of post.now.lock.now) (knowledge first.new) (record { 0 = 0 }) }
 {
     let mut helpers = Vec::new(post.alloc);
     for number in 1..post.plan.workers {
@@ -67,9 +67,9 @@ pub(crate) fn run_team<'l, 'p, R: Threads + Wait + Sync, G: Gate + Sync, K: Sink
 ) -> WorkerEnd
     requires of_lock { IsPassOf post.now.lock.now first.old }
     requires post { IsAtPost (name_of post.now.lock.now) post.now.plan.now post.now.number from }
-    requires ready { IsReady (name_of post.now.lock.now) (known first.old) post.now.number }
+    requires ready { IsReady (name_of post.now.lock.now) (knowledge first.old) post.now.number }
     ensures of_lock { IsPassOf post.now.lock.now first.new }
-    ensures ended { HasEnded (name_of post.now.lock.now) post.now.plan.now (known first.new) (K.written out.old) (K.written out.new) (K.faults out.old) (K.faults out.new) result }
+    ensures ended { HasEnded (name_of post.now.lock.now) post.now.plan.now (knowledge first.new) (K.written out.old) (K.written out.new) (K.faults out.old) (K.faults out.new) result }
 {
     if helpers.is_empty() {
         return write_at(post, first, from, out);
@@ -91,10 +91,10 @@ fn write_beside<'l, 'p, R: Threads + Wait + Sync, G: Gate + Sync, K: Sink + Send
 ) -> WorkerEnd
     requires of_lock { IsPassOf post.now.lock.now first.old }
     requires post { IsAtPost (name_of post.now.lock.now) post.now.plan.now post.now.number from }
-    requires stands { Stands (name_of post.now.lock.now) (known first.old) post.now.number begun }
+    requires stands { Stands (name_of post.now.lock.now) (knowledge first.old) post.now.number begun }
     ensures of_lock { IsPassOf post.now.lock.now first.new }
     ensures ended { (before : Option (List ℕ)) → AreWritten (name_of post.now.lock.now) begun.written before (K.written out.old)
-        → HasEnded (name_of post.now.lock.now) post.now.plan.now (known first.new) before (K.written out.new) (K.faults out.old) (K.faults out.new) result }
+        → HasEnded (name_of post.now.lock.now) post.now.plan.now (knowledge first.new) before (K.written out.new) (K.faults out.old) (K.faults out.new) result }
 {
     let mut helpers = Some(helpers);
     let mut begun = Some(begun);
@@ -119,10 +119,10 @@ fn write_begun<'l, 'p, R: Wait, G: Gate, K: Sink>(
     requires of_lock { IsPassOf post.now.lock.now first.old }
     requires post { IsAtPost (name_of post.now.lock.now) post.now.plan.now post.now.number from }
     requires some { IsSome begun.old }
-    requires stands { IfSome begun.old (Stands (name_of post.now.lock.now) (known first.old) post.now.number) }
+    requires stands { IfSome begun.old (Stands (name_of post.now.lock.now) (knowledge first.old) post.now.number) }
     ensures of_lock { IsPassOf post.now.lock.now first.new }
     ensures ended { IfSome begun.old (λ b. (before : Option (List ℕ)) → AreWritten (name_of post.now.lock.now) b.written before (K.written out.old)
-        → HasEnded (name_of post.now.lock.now) post.now.plan.now (known first.new) before (K.written out.new) (K.faults out.old) (K.faults out.new) result) }
+        → HasEnded (name_of post.now.lock.now) post.now.plan.now (knowledge first.new) before (K.written out.new) (K.faults out.old) (K.faults out.new) result) }
 {
     let Some(begun) = begun.take() else {
         unreachable!()

@@ -1,6 +1,6 @@
 // A worker's visits to the board.
 ghost use Rattle.std.specs.Prelude.{◌≡◌};
-ghost use Rattle.kept_lock.specs.Locks.{name_of, known, IsPassOf};
+ghost use Rattle.kept_lock.specs.Locks.{name_of, knowledge, IsPassOf};
 ghost use Rattle.host_workers.specs.Endings.{IsHalted};
 ghost use Rattle.host_workers.specs.Passes.{GoesOn, OnlyHalts};
 ghost use Rattle.host_workers.specs.inner.Rounds.{Brings, IsCalm};
@@ -25,11 +25,11 @@ pub(crate) fn visit<'l, 'p, R: Wait, G>(
     written: Option<u32>,
 ) -> Told
     requires of_lock { IsPassOf post.now.lock.now pass.old }
-    requires brings { Brings (name_of post.now.lock.now) (known pass.old) post.now.number packet }
-    requires committed { AreToldOf (name_of post.now.lock.now) (known pass.old) written }
+    requires brings { Brings (name_of post.now.lock.now) (knowledge pass.old) post.now.number packet }
+    requires committed { AreToldOf (name_of post.now.lock.now) (knowledge pass.old) written }
     ensures of_lock { IsPassOf post.now.lock.now pass.new }
-    ensures on { GoesOn (known pass.old) (known pass.new) }
-    ensures offered { Offered (name_of post.now.lock.now) (known pass.new) post.now.number written result.offer }
+    ensures on { GoesOn (knowledge pass.old) (knowledge pass.new) }
+    ensures offered { Offered (name_of post.now.lock.now) (knowledge pass.new) post.now.number written result.offer }
 {
     finished_states_tell();
     heads_are_known();
@@ -54,12 +54,12 @@ pub(crate) fn halt<'l, 'p, R: Wait, G>(
     why: StopCause,
 )
     requires of_lock { IsPassOf post.now.lock.now pass.old }
-    requires calm { IsCalm (name_of post.now.lock.now) (known pass.old) post.now.number }
+    requires calm { IsCalm (name_of post.now.lock.now) (knowledge pass.old) post.now.number }
     requires writer { why ≡ StopCause.SinkFault → post.now.number.0 ≡ 0 }
     ensures of_lock { IsPassOf post.now.lock.now pass.new }
-    ensures on { GoesOn (known pass.old) (known pass.new) }
-    ensures halted { IsHalted (known pass.new).seen }
-    ensures own { OnlyHalts (known pass.new).made why }
+    ensures on { GoesOn (knowledge pass.old) (knowledge pass.new) }
+    ensures halted { IsHalted (knowledge pass.new).seen }
+    ensures own { OnlyHalts (knowledge pass.new).made why }
 {
     let number = post.number;
     post.lock.visit(

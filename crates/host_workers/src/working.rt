@@ -1,7 +1,7 @@
 //! A worker, from its first visit to its last.
 
 ghost use Rattle.std.specs.Prelude.{◌≡◌, ◌≢◌, Err, IfOk, Ok};
-ghost use Rattle.kept_lock.specs.Locks.{name_of, known, IsPassOf};
+ghost use Rattle.kept_lock.specs.Locks.{name_of, knowledge, IsPassOf};
 ghost use Rattle.host_workers.specs.Endings.{Ended};
 ghost use Rattle.host_workers.specs.Passes.{GoesOn, IsReady};
 ghost use Rattle.host_workers.specs.inner.Rounds.{Asked, Brings, HasLease, HasPaused, IsCalm, Rounded};
@@ -34,10 +34,10 @@ pub fn worker<'p, R: Wait, G: Gate>(
 ) -> WorkerEnd
     requires of_lock { IsPassOf lock.now pass.old }
     requires plan { (name_of lock.now).plan.now ≡ plan.now }
-    requires ready { IsReady (name_of lock.now) (known pass.old) number }
+    requires ready { IsReady (name_of lock.now) (knowledge pass.old) number }
     ensures of_lock { IsPassOf lock.now pass.new }
-    ensures number { (known pass.new).number ≡ number.0 }
-    ensures ended { Ended (name_of lock.now) (known pass.new) result }
+    ensures number { (knowledge pass.new).number ≡ number.0 }
+    ensures ended { Ended (name_of lock.now) (knowledge pass.new) result }
     ensures no_sink { result ≢ WorkerEnd.WriteFault }
 {
     let post = Post {
@@ -58,10 +58,10 @@ pub(crate) fn work_at<'l, 'p, R: Wait, G: Gate>(
 ) -> WorkerEnd
     requires of_lock { IsPassOf post.now.lock.now pass.old }
     requires plan { (name_of post.now.lock.now).plan.now ≡ post.now.plan.now }
-    requires ready { IsReady (name_of post.now.lock.now) (known pass.old) post.now.number }
+    requires ready { IsReady (name_of post.now.lock.now) (knowledge pass.old) post.now.number }
     ensures of_lock { IsPassOf post.now.lock.now pass.new }
-    ensures number { (known pass.new).number ≡ post.now.number.0 }
-    ensures ended { Ended (name_of post.now.lock.now) (known pass.new) result }
+    ensures number { (knowledge pass.new).number ≡ post.now.number.0 }
+    ensures ended { Ended (name_of post.now.lock.now) (knowledge pass.new) result }
     ensures no_sink { result ≢ WorkerEnd.WriteFault }
 {
     let mut packet = None;
@@ -82,9 +82,9 @@ fn round<'l, 'p, R: Wait, G: Gate>(
 ) -> Result<Option<Packet>, WorkerEnd>
     requires of_lock { IsPassOf post.now.lock.now pass.old }
     requires plan { (name_of post.now.lock.now).plan.now ≡ post.now.plan.now }
-    requires brings { Brings (name_of post.now.lock.now) (known pass.old) post.now.number packet }
+    requires brings { Brings (name_of post.now.lock.now) (knowledge pass.old) post.now.number packet }
     ensures of_lock { IsPassOf post.now.lock.now pass.new }
-    ensures rounded { Rounded (name_of post.now.lock.now) (known pass.new) post.now.number result }
+    ensures rounded { Rounded (name_of post.now.lock.now) (knowledge pass.new) post.now.number result }
 {
     match visit(post, pass, packet, None).offer {
         Ok(Offer::Task(task)) => carry_out(post, pass, task),
@@ -101,10 +101,10 @@ pub(crate) fn carry_out<'l, 'p, R: Wait, G: Gate>(
 ) -> Result<Option<Packet>, WorkerEnd>
     requires of_lock { IsPassOf post.now.lock.now pass.old }
     requires plan { (name_of post.now.lock.now).plan.now ≡ post.now.plan.now }
-    requires asked { Asked (name_of post.now.lock.now) (known pass.old) post.now.number (Ok task) }
+    requires asked { Asked (name_of post.now.lock.now) (knowledge pass.old) post.now.number (Ok task) }
     ensures of_lock { IsPassOf post.now.lock.now pass.new }
-    ensures on { GoesOn (known pass.old) (known pass.new) }
-    ensures rounded { Rounded (name_of post.now.lock.now) (known pass.new) post.now.number result }
+    ensures on { GoesOn (knowledge pass.old) (knowledge pass.new) }
+    ensures rounded { Rounded (name_of post.now.lock.now) (knowledge pass.new) post.now.number result }
     ensures finished { result ≡ Err WorkerEnd.Finished → task ≡ Task.Finished }
 {
     match task {
@@ -129,8 +129,8 @@ fn run_out<'l, 'p, R: Wait, G: Gate>(
     mut lease: Lease,
 ) -> Result<Packet, OutOfMemory>
     requires plan { (name_of post.now.lock.now).plan.now ≡ post.now.plan.now }
-    requires leased { HasLease (name_of post.now.lock.now) (known pass.now) post.now.number lease }
-    ensures { IfOk result (λ p. HasPaused (name_of post.now.lock.now) (known pass.now) post.now.number p.lease p.pause) }
+    requires leased { HasLease (name_of post.now.lock.now) (knowledge pass.now) post.now.number lease }
+    ensures { IfOk result (λ p. HasPaused (name_of post.now.lock.now) (knowledge pass.now) post.now.number p.lease p.pause) }
 {
     post.gate.reach(lease.ticket, &lease.path);
     let before = lease.actor.ticks();
@@ -150,10 +150,10 @@ pub(crate) fn give_up<'l, 'p, R: Wait, G>(
     refused: OutOfMemory,
 ) -> WorkerEnd
     requires of_lock { IsPassOf post.now.lock.now pass.old }
-    requires calm { IsCalm (name_of post.now.lock.now) (known pass.old) post.now.number }
+    requires calm { IsCalm (name_of post.now.lock.now) (knowledge pass.old) post.now.number }
     ensures of_lock { IsPassOf post.now.lock.now pass.new }
-    ensures on { GoesOn (known pass.old) (known pass.new) }
-    ensures ended { Ended (name_of post.now.lock.now) (known pass.new) result }
+    ensures on { GoesOn (knowledge pass.old) (knowledge pass.new) }
+    ensures ended { Ended (name_of post.now.lock.now) (knowledge pass.new) result }
     ensures memory { result ≡ WorkerEnd.OutOfMemory the_refusal }
 {
     halt(post, pass, StopCause::Memory(refused));

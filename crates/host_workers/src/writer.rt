@@ -4,7 +4,7 @@ ghost use Rattle.std.specs.Prelude.{◌≡◌, ◌≤◌, ℕ, IfErr, IfOk, List
 ghost use Rattle.std.specs.Io.KnownBytes.{Appends};
 ghost use Rattle.wave_io.specs.Causes.{Rose};
 ghost use Rattle.wave_io.specs.Streams.{AppendsFront};
-ghost use Rattle.kept_lock.specs.Locks.{name_of, known, IsPassOf};
+ghost use Rattle.kept_lock.specs.Locks.{name_of, knowledge, IsPassOf};
 ghost use Rattle.host_workers.specs.Endings.{Ended};
 ghost use Rattle.host_workers.specs.Lines.{event_lines};
 ghost use Rattle.host_workers.specs.Passes.{IsReady};
@@ -42,10 +42,10 @@ pub fn writing_worker<'p, R: Wait, G: Gate, K: Sink>(
     requires of_lock { IsPassOf lock.now pass.old }
     requires plan { (name_of lock.now).plan.now ≡ plan.now }
     requires from { (name_of lock.now).start.now.next ≡ from }
-    requires ready { IsReady (name_of lock.now) (known pass.old) (record { 0 = 0 }) }
+    requires ready { IsReady (name_of lock.now) (knowledge pass.old) (record { 0 = 0 }) }
     ensures of_lock { IsPassOf lock.now pass.new }
-    ensures number { (known pass.new).number ≡ 0 }
-    ensures ended { Ended (name_of lock.now) (known pass.new) result }
+    ensures number { (knowledge pass.new).number ≡ 0 }
+    ensures ended { Ended (name_of lock.now) (knowledge pass.new) result }
     ensures whole { result ≡ WorkerEnd.Finished → Appends (K.written out.old) (K.written out.new) (event_lines plan.now (name_of lock.now).start.now) }
     ensures front { AppendsFront (K.written out.old) (K.written out.new) (event_lines plan.now (name_of lock.now).start.now) }
     ensures fault { result ≡ WorkerEnd.WriteFault → Rose (K.faults out.old) (K.faults out.new) }
@@ -71,9 +71,9 @@ pub(crate) fn write_at<'l, 'p, R: Wait, G: Gate, K: Sink>(
 ) -> WorkerEnd
     requires of_lock { IsPassOf post.now.lock.now pass.old }
     requires post { IsAtPost (name_of post.now.lock.now) post.now.plan.now post.now.number from }
-    requires ready { IsReady (name_of post.now.lock.now) (known pass.old) post.now.number }
+    requires ready { IsReady (name_of post.now.lock.now) (knowledge pass.old) post.now.number }
     ensures of_lock { IsPassOf post.now.lock.now pass.new }
-    ensures ended { HasEnded (name_of post.now.lock.now) post.now.plan.now (known pass.new) (K.written out.old) (K.written out.new) (K.faults out.old) (K.faults out.new) result }
+    ensures ended { HasEnded (name_of post.now.lock.now) post.now.plan.now (knowledge pass.new) (K.written out.old) (K.written out.new) (K.faults out.old) (K.faults out.new) result }
 {
     match write_alone(post, pass, from, out) {
         Ok(begun) => write_on(post, pass, from, begun, out),
@@ -90,10 +90,10 @@ pub(crate) fn write_alone<'l, 'p, R: Wait, G: Gate, K: Sink>(
 ) -> Result<Begun, WorkerEnd>
     requires of_lock { IsPassOf post.now.lock.now pass.old }
     requires post { IsAtPost (name_of post.now.lock.now) post.now.plan.now post.now.number from }
-    requires ready { IsReady (name_of post.now.lock.now) (known pass.old) post.now.number }
+    requires ready { IsReady (name_of post.now.lock.now) (knowledge pass.old) post.now.number }
     ensures of_lock { IsPassOf post.now.lock.now pass.new }
-    ensures begun { IfOk result (λ b. HasBegun (name_of post.now.lock.now) (known pass.new) post.now.number b (K.written out.old) (K.written out.new)) }
-    ensures ended { IfErr result (HasEnded (name_of post.now.lock.now) post.now.plan.now (known pass.new) (K.written out.old) (K.written out.new) (K.faults out.old) (K.faults out.new)) }
+    ensures begun { IfOk result (λ b. HasBegun (name_of post.now.lock.now) (knowledge pass.new) post.now.number b (K.written out.old) (K.written out.new)) }
+    ensures ended { IfErr result (HasEnded (name_of post.now.lock.now) post.now.plan.now (knowledge pass.new) (K.written out.old) (K.written out.new) (K.faults out.old) (K.faults out.new)) }
     ensures later { K.faults out.old ≤ K.faults out.new }
 {
     let mut packet = None;
@@ -124,10 +124,10 @@ pub(crate) fn write_on<'l, 'p, R: Wait, G: Gate, K: Sink>(
 ) -> WorkerEnd
     requires of_lock { IsPassOf post.now.lock.now pass.old }
     requires post { IsAtPost (name_of post.now.lock.now) post.now.plan.now post.now.number from }
-    requires stands { Stands (name_of post.now.lock.now) (known pass.old) post.now.number begun }
+    requires stands { Stands (name_of post.now.lock.now) (knowledge pass.old) post.now.number begun }
     ensures of_lock { IsPassOf post.now.lock.now pass.new }
     ensures ended { (first : Option (List ℕ)) → AreWritten (name_of post.now.lock.now) begun.written first (K.written out.old)
-        → HasEnded (name_of post.now.lock.now) post.now.plan.now (known pass.new) first (K.written out.new) (K.faults out.old) (K.faults out.new) result }
+        → HasEnded (name_of post.now.lock.now) post.now.plan.now (knowledge pass.new) first (K.written out.new) (K.faults out.old) (K.faults out.new) result }
 {
     let Begun { offer, written } = begun;
     let (mut packet, mut written) = match follow(post, pass, from, offer, written, out) {
@@ -159,10 +159,10 @@ fn follow<'l, 'p, R: Wait, G: Gate, K: Sink>(
 ) -> Result<(Option<Packet>, u32), WorkerEnd>
     requires of_lock { IsPassOf post.now.lock.now pass.old }
     requires post { IsAtPost (name_of post.now.lock.now) post.now.plan.now post.now.number from }
-    requires offered { Offered (name_of post.now.lock.now) (known pass.old) post.now.number (Some written) offer }
-    requires committed { AreCommitted (name_of post.now.lock.now) (known pass.old) written }
+    requires offered { Offered (name_of post.now.lock.now) (knowledge pass.old) post.now.number (Some written) offer }
+    requires committed { AreCommitted (name_of post.now.lock.now) (knowledge pass.old) written }
     ensures of_lock { IsPassOf post.now.lock.now pass.new }
-    ensures written { HasWritten (name_of post.now.lock.now) (known pass.new) post.now.number written (K.written out.old) (K.written out.new) (K.faults out.old) (K.faults out.new) result }
+    ensures written { HasWritten (name_of post.now.lock.now) (knowledge pass.new) post.now.number written (K.written out.old) (K.written out.new) (K.faults out.old) (K.faults out.new) result }
     ensures later { K.faults out.old ≤ K.faults out.new }
 {
     match offer {
@@ -186,10 +186,10 @@ fn write_part<'l, 'p, R: Wait, G, K: Sink>(
 ) -> Result<(Option<Packet>, u32), WorkerEnd>
     requires of_lock { IsPassOf post.now.lock.now pass.old }
     requires post { IsAtPost (name_of post.now.lock.now) post.now.plan.now post.now.number from }
-    requires ready { IsReady (name_of post.now.lock.now) (known pass.old) post.now.number }
-    requires next { AreNext (name_of post.now.lock.now) (known pass.old) written lines.now }
+    requires ready { IsReady (name_of post.now.lock.now) (knowledge pass.old) post.now.number }
+    requires next { AreNext (name_of post.now.lock.now) (knowledge pass.old) written lines.now }
     ensures of_lock { IsPassOf post.now.lock.now pass.new }
-    ensures written { HasWritten (name_of post.now.lock.now) (known pass.new) post.now.number written (K.written out.old) (K.written out.new) (K.faults out.old) (K.faults out.new) result }
+    ensures written { HasWritten (name_of post.now.lock.now) (knowledge pass.new) post.now.number written (K.written out.old) (K.written out.new) (K.faults out.old) (K.faults out.new) result }
     ensures later { K.faults out.old ≤ K.faults out.new }
 {
     parts_make_a_listing();

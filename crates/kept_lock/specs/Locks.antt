@@ -11,8 +11,8 @@ module _ {V N E : Type 0} where
   name_of lock = lock.table.shared.key
 
   -- what the pass knows
-  abbrev pub known : Pass V N E → Known E
-  known pass = pass.seat.me.0.known
+  abbrev pub knowledge : Pass V N E → Known E
+  knowledge pass = pass.seat.me.0.known
 
   -- the value that is out with the pass
   abbrev pub value_of : Pass V N E → Option V

@@ -3,7 +3,7 @@ ghost use Rattle.std.specs.Prelude.{◌≡◌};
 ghost use Rattle.std.specs.Fn.{FnOnceTakesAtMut, FnOnceReturnsAtMut};
 ghost use Rattle.kept_lock.specs.History.{Adds};
 ghost use Rattle.kept_lock.specs.Knowing.{pass_inside, left_at};
-ghost use Rattle.kept_lock.specs.Locks.{name_of, known, IsPassOf};
+ghost use Rattle.kept_lock.specs.Locks.{name_of, knowledge, IsPassOf};
 ghost use Rattle.kept_lock.specs.Visits.{Meets};
 
 use crate::kept::Kept;
@@ -21,15 +21,15 @@ impl<V: Kept> KeptLock<V> {
         work: F,
     ) -> Parting<T>
         requires pass { IsPassOf self.now pass.old }
-        requires may { (y : V) → Meets V.history V.owner V.stands (name_of self.now) (known pass.old) y
+        requires may { (y : V) → Meets V.history V.owner V.stands (name_of self.now) (knowledge pass.old) y
             → FnOnceTakesAtMut F.FnOnce work y }
-        requires keeps { (y : V) (r : Parting T) (z : V) → Meets V.history V.owner V.stands (name_of self.now) (known pass.old) y
+        requires keeps { (y : V) (r : Parting T) (z : V) → Meets V.history V.owner V.stands (name_of self.now) (knowledge pass.old) y
             → FnOnceReturnsAtMut F.FnOnce work y r z
-            → V.stands z (name_of self.now) × Adds V.owner (known pass.old).number (V.history y) (V.history z) }
+            → V.stands z (name_of self.now) × Adds V.owner (knowledge pass.old).number (V.history y) (V.history z) }
         ensures pass { IsPassOf self.now pass.new }
-        ensures done { (y : V) × (z : V) × Meets V.history V.owner V.stands (name_of self.now) (known pass.old) y
+        ensures done { (y : V) × (z : V) × Meets V.history V.owner V.stands (name_of self.now) (knowledge pass.old) y
             × FnOnceReturnsAtMut F.FnOnce work y result z
-            × (known pass.new ≡ left_at (pass_inside (known pass.old) (V.history y)) (V.history z)) }
+            × (knowledge pass.new ≡ left_at (pass_inside (knowledge pass.old) (V.history y)) (V.history z)) }
     {
         let mut guard = self.enter(rt, pass);
         let result = work(guard.get_mut());

@@ -3,7 +3,7 @@ ghost use Rattle.std.specs.Prelude.{◌≡◌};
 ghost use Rattle.kept_lock.specs.Knowing.{Agrees, Accounts};
 ghost use Rattle.kept_lock.specs.Seats.{IsPass};
 ghost use Rattle.kept_lock.specs.Plays.{Shut};
-ghost use Rattle.kept_lock.specs.Locks.{name_of, known, IsPassOf};
+ghost use Rattle.kept_lock.specs.Locks.{name_of, knowledge, IsPassOf};
 
 use crate::held::Held;
 use crate::kept::Kept;
@@ -18,8 +18,8 @@ impl<V: Kept> KeptLock<V> {
     pub fn close<R: Wait>(self, rt: &R, pass: Pass<V>) -> V
         requires { IsPassOf self pass }
         ensures stands { V.stands result (name_of self) }
-        ensures agrees { Agrees V.owner (known pass) (V.history result) }
-        ensures accounts { Accounts V.owner (known pass) (V.history result) }
+        ensures agrees { Agrees V.owner (knowledge pass) (V.history result) }
+        ensures accounts { Accounts V.owner (knowledge pass) (V.history result) }
     {
         let (mut seat, _, _) = pass.into_parts();
         self.shut(rt, &mut seat);

@@ -4,7 +4,7 @@ ghost use Rattle.kept_lock.specs.History.{Adds};
 ghost use Rattle.kept_lock.specs.Knowing.{Agrees, Accounts, pass_inside, left_at};
 ghost use Rattle.kept_lock.specs.Plays.{Won, placed_at};
 ghost use Rattle.kept_lock.specs.Seats.{IsPass, IsIn};
-ghost use Rattle.kept_lock.specs.Locks.{name_of, known, value_of, IsPassOf, IsInside};
+ghost use Rattle.kept_lock.specs.Locks.{name_of, knowledge, value_of, IsPassOf, IsInside};
 ghost use Rattle.kept_lock.specs.Guards.{lock_ref, pass_borrow, pass_in, value_in};
 ghost use Rattle.kept_lock.specs.declared.view.Place.TheVariants.{Inside};
 
@@ -26,9 +26,9 @@ impl<V: Kept> KeptLock<V> {
         ensures same_lock { lock_ref result ≡ self.entry }
         ensures inside { IsInside self.now (pass_in result) }
         ensures stands { IfSome (value_in result) (λ y. V.stands y (name_of self.now)) }
-        ensures agrees { IfSome (value_in result) (λ y. Agrees V.owner (known pass.old) (V.history y)) }
-        ensures accounts { IfSome (value_in result) (λ y. Accounts V.owner (known pass.old) (V.history y)) }
-        ensures entered { IfSome (value_in result) (λ y. known (pass_in result) ≡ pass_inside (known pass.old) (V.history y)) }
+        ensures agrees { IfSome (value_in result) (λ y. Agrees V.owner (knowledge pass.old) (V.history y)) }
+        ensures accounts { IfSome (value_in result) (λ y. Accounts V.owner (knowledge pass.old) (V.history y)) }
+        ensures entered { IfSome (value_in result) (λ y. knowledge (pass_in result) ≡ pass_inside (knowledge pass.old) (V.history y)) }
     {
         let value = self.take(rt, &mut pass.seat);
         let before = pass.out.replace(value);
@@ -73,9 +73,9 @@ impl<V: Kept> KeptLock<V> {
     pub(crate) fn put_back(&self, pass: &mut Pass<V>, wakes: Wakes)
         requires inside { IsInside self.now pass.old }
         requires stands { IfSome (value_of pass.old) (λ y. V.stands y (name_of self.now)) }
-        requires adds { IfSome (value_of pass.old) (λ y. Adds V.owner (known pass.old).number (known pass.old).seen (V.history y)) }
+        requires adds { IfSome (value_of pass.old) (λ y. Adds V.owner (knowledge pass.old).number (knowledge pass.old).seen (V.history y)) }
         ensures outside { IsPassOf self.now pass.new }
-        ensures left { IfSome (value_of pass.old) (λ y. known pass.new ≡ left_at (known pass.old) (V.history y)) }
+        ensures left { IfSome (value_of pass.old) (λ y. knowledge pass.new ≡ left_at (knowledge pass.old) (V.history y)) }
     {
         let called = self.beds.call(wakes, pass.bed);
         let value = pass.out.take().unwrap();

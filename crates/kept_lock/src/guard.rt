@@ -2,7 +2,7 @@
 ghost use Rattle.std.specs.Prelude.{◌≡◌, Some, IfSome};
 ghost use Rattle.kept_lock.specs.History.{Adds};
 ghost use Rattle.kept_lock.specs.Knowing.{left_at};
-ghost use Rattle.kept_lock.specs.Locks.{name_of, known, IsPassOf, IsInside, value_of};
+ghost use Rattle.kept_lock.specs.Locks.{name_of, knowledge, IsPassOf, IsInside, value_of};
 
 use crate::kept::Kept;
 use crate::lock::{KeptLock, Pass};
@@ -34,11 +34,11 @@ impl<'a, V: Kept> Guard<'a, V> {
     pub fn leave(self)
         requires inside { IsInside (lock_in self) (pass_in self) }
         requires stands { IfSome (value_in self) (λ y. V.stands y (name_of (lock_in self))) }
-        requires adds { IfSome (value_in self) (λ y. Adds V.owner (known (pass_in self)).number (known (pass_in self)).seen (V.history y)) }
+        requires adds { IfSome (value_in self) (λ y. Adds V.owner (knowledge (pass_in self)).number (knowledge (pass_in self)).seen (V.history y)) }
 
         // What the guard leaves behind its borrow of the pass is `self.exit.1.0.now`.
         ensures outside { IsPassOf (lock_in self.entry) self.exit.1.0.now }
-        ensures left { IfSome (value_in self.entry) (λ y. known self.exit.1.0.now ≡ left_at (known (pass_in self.entry)) (V.history y)) }
+        ensures left { IfSome (value_in self.entry) (λ y. knowledge self.exit.1.0.now ≡ left_at (knowledge (pass_in self.entry)) (V.history y)) }
     {
         let Guard { lock, pass } = self;
         lock.put_back(pass, Wakes::All);
@@ -48,10 +48,10 @@ impl<'a, V: Kept> Guard<'a, V> {
     pub fn leave_unchanged(self)
         requires inside { IsInside (lock_in self) (pass_in self) }
         requires stands { IfSome (value_in self) (λ y. V.stands y (name_of (lock_in self))) }
-        requires unchanged { IfSome (value_in self) (λ y. V.history y ≡ (known (pass_in self)).seen) }
+        requires unchanged { IfSome (value_in self) (λ y. V.history y ≡ (knowledge (pass_in self)).seen) }
 
         ensures outside { IsPassOf (lock_in self.entry) self.exit.1.0.now }
-        ensures left { IfSome (value_in self.entry) (λ y. known self.exit.1.0.now ≡ left_at (known (pass_in self.entry)) (V.history y)) }
+        ensures left { IfSome (value_in self.entry) (λ y. knowledge self.exit.1.0.now ≡ left_at (knowledge (pass_in self.entry)) (V.history y)) }
     {
         let Guard { lock, pass } = self;
         lock.put_back(pass, Wakes::Nobody);
@@ -61,10 +61,10 @@ impl<'a, V: Kept> Guard<'a, V> {
     pub(crate) fn leave_as(self, wakes: Wakes)
         requires inside { IsInside (lock_in self) (pass_in self) }
         requires stands { IfSome (value_in self) (λ y. V.stands y (name_of (lock_in self))) }
-        requires adds { IfSome (value_in self) (λ y. Adds V.owner (known (pass_in self)).number (known (pass_in self)).seen (V.history y)) }
+        requires adds { IfSome (value_in self) (λ y. Adds V.owner (knowledge (pass_in self)).number (knowledge (pass_in self)).seen (V.history y)) }
 
         ensures outside { IsPassOf (lock_in self.entry) self.exit.1.0.now }
-        ensures left { IfSome (value_in self.entry) (λ y. known self.exit.1.0.now ≡ left_at (known (pass_in self.entry)) (V.history y)) }
+        ensures left { IfSome (value_in self.entry) (λ y. knowledge self.exit.1.0.now ≡ left_at (knowledge (pass_in self.entry)) (V.history y)) }
     {
         let Guard { lock, pass } = self;
         lock.put_back(pass, wakes);

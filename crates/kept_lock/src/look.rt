@@ -2,7 +2,7 @@
 ghost use Rattle.std.specs.Prelude.{◌≡◌};
 ghost use Rattle.std.specs.Fn.{FnOnceTakesAt, FnOnceReturnsAt};
 ghost use Rattle.kept_lock.specs.Knowing.{pass_inside};
-ghost use Rattle.kept_lock.specs.Locks.{name_of, known, IsPassOf};
+ghost use Rattle.kept_lock.specs.Locks.{name_of, knowledge, IsPassOf};
 ghost use Rattle.kept_lock.specs.Visits.{Meets};
 
 use crate::kept::Kept;
@@ -13,12 +13,12 @@ impl<V: Kept> KeptLock<V> {
     /// Waits as `enter` does, and lends the value. It wakes nobody who naps. In the clauses y is the value that was met.
     pub fn look<R: Wait, T, F: FnOnce(&V) -> T>(&self, rt: &R, pass: &mut Pass<V>, view: F) -> T
         requires pass { IsPassOf self.now pass.old }
-        requires may { (y : V) → Meets V.history V.owner V.stands (name_of self.now) (known pass.old) y
+        requires may { (y : V) → Meets V.history V.owner V.stands (name_of self.now) (knowledge pass.old) y
             → FnOnceTakesAt F.FnOnce view y }
         ensures pass { IsPassOf self.now pass.new }
-        ensures seen { (y : V) × Meets V.history V.owner V.stands (name_of self.now) (known pass.old) y
+        ensures seen { (y : V) × Meets V.history V.owner V.stands (name_of self.now) (knowledge pass.old) y
             × FnOnceReturnsAt F.FnOnce view y result
-            × (known pass.new ≡ pass_inside (known pass.old) (V.history y)) }
+            × (knowledge pass.new ≡ pass_inside (knowledge pass.old) (V.history y)) }
     {
         let guard = self.enter(rt, pass);
         let result = view(guard.get());

@@ -1,7 +1,7 @@
 // The beginning of a lock.
 ghost use Rattle.std.specs.Prelude.{◌≡◌, [], IfOk, IfErr};
 ghost use Rattle.kept_lock.specs.Knowing.{first};
-ghost use Rattle.kept_lock.specs.Locks.{name_of, known, IsPassOf};
+ghost use Rattle.kept_lock.specs.Locks.{name_of, knowledge, IsPassOf};
 
 use crate::beds::Beds;
 use crate::bell::Bell;
@@ -23,7 +23,7 @@ impl<V: Kept> KeptLock<V> {
         requires empty { V.history value ≡ [] }
         ensures pass { IfOk result (λ r. IsPassOf r.0 r.1) }
         ensures name { IfOk result (λ r. name_of r.0 ≡ name) }
-        ensures first { IfOk result (λ r. known r.1 ≡ first) }
+        ensures first { IfOk result (λ r. knowledge r.1 ≡ first) }
         ensures back { IfErr result (λ r. r.0 ≡ value) }
     {
         let held = match Held::new(alloc, value) {

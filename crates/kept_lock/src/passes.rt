@@ -3,7 +3,7 @@ ghost use Rattle.std.specs.Prelude.{◌≡◌, ◌≢◌, ◌<◌, Some};
 ghost use Rattle.kept_lock.specs.History.{StartsWith};
 ghost use Rattle.kept_lock.specs.Knowing.{counted_on, next_pass, joined_pass};
 ghost use Rattle.kept_lock.specs.Plays.{Hears};
-ghost use Rattle.kept_lock.specs.Locks.{name_of, known, IsPassOf};
+ghost use Rattle.kept_lock.specs.Locks.{name_of, knowledge, IsPassOf};
 ghost use Rattle.kept_lock.specs.declared.view.Place.TheVariants.{Outside};
 
 use crate::held::Held;
@@ -17,12 +17,12 @@ impl<V: Kept> KeptLock<V> {
     /// A new pass, which has seen as much and made nothing.
     pub fn split(&self, pass: &mut Pass<V>) -> Pass<V>
         requires pass { IsPassOf self.now pass.old }
-        requires first { (known pass.old).number ≡ 0 }
-        requires room { (known pass.old).passes < 4294967295 }
+        requires first { (knowledge pass.old).number ≡ 0 }
+        requires room { (knowledge pass.old).passes < 4294967295 }
         ensures old { IsPassOf self.now pass.new }
         ensures new { IsPassOf self.now result }
-        ensures counts { known pass.new ≡ counted_on (known pass.old) }
-        ensures next { known result ≡ next_pass (known pass.old) }
+        ensures counts { knowledge pass.new ≡ counted_on (knowledge pass.old) }
+        ensures next { knowledge result ≡ next_pass (knowledge pass.old) }
     {
         let seat = self.table.shared.split_seat::<Cut>(&mut pass.seat);
         let bed = self.beds.next();
@@ -38,11 +38,11 @@ impl<V: Kept> KeptLock<V> {
     pub fn join(&self, into: Pass<V>, other: Pass<V>) -> Pass<V>
         requires into { IsPassOf self.now into }
         requires other { IsPassOf self.now other }
-        requires later { (known other).number ≢ 0 }
+        requires later { (knowledge other).number ≢ 0 }
         ensures pass { IsPassOf self.now result }
-        ensures joined { known result ≡ joined_pass (known into) (known other) }
-        ensures this { StartsWith (known result).seen (known into).seen }
-        ensures that { StartsWith (known result).seen (known other).seen }
+        ensures joined { knowledge result ≡ joined_pass (knowledge into) (knowledge other) }
+        ensures this { StartsWith (knowledge result).seen (knowledge into).seen }
+        ensures that { StartsWith (knowledge result).seen (knowledge other).seen }
     {
         let (mut seat, bed, last) = into.into_parts();
         let (other, _, _) = other.into_parts();

@@ -1,7 +1,7 @@
 // What a pass made is still known at a later visit, and what the visit's work captured goes into it and comes back.
 ghost use Rattle.std.specs.Prelude.{◌≡◌, ◌++◌, ◌∷◌, [], length, OnOk, MatchResult};
 ghost use Rattle.kept_lock.specs.History.{entries_of};
-ghost use Rattle.kept_lock.specs.Locks.{known, IsPassOf};
+ghost use Rattle.kept_lock.specs.Locks.{knowledge, IsPassOf};
 ghost use Rattle.lock_counter.specs.Counters.{StandsFor, addition};
 ghost use Rattle.lock_counter.specs.Passes.{Made};
 
@@ -27,10 +27,10 @@ pub fn add_again<'p, R: Wait>(
     order: Order,
 ) -> Result<(), Order>
     requires pass { IsPassOf lock.now pass.old }
-    requires number { (known pass.old).number ≡ me }
-    requires once { length (known pass.old).made ≡ 1 }
+    requires number { (knowledge pass.old).number ≡ me }
+    requires once { length (knowledge pass.old).made ≡ 1 }
     ensures pass { IsPassOf lock.now pass.new }
-    ensures made { OnOk result (Made (known pass.old) (known pass.new) (addition me order.amount ∷ [])) }
+    ensures made { OnOk result (Made (knowledge pass.old) (knowledge pass.new) (addition me order.amount ∷ [])) }
 {
     lock.visit(
         rt,

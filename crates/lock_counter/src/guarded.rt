@@ -2,7 +2,7 @@
 // Where the value's type names a lifetime, what a guard leaves behind is known only there; elsewhere `visit` serves.
 ghost use Rattle.std.specs.Prelude.{◌≡◌, length};
 ghost use Rattle.kept_lock.specs.History.{StartsWith, Adds};
-ghost use Rattle.kept_lock.specs.Locks.{known, IsPassOf};
+ghost use Rattle.kept_lock.specs.Locks.{knowledge, IsPassOf};
 
 use crate::counter::Counter;
 use kept_lock::{Kept, KeptLock, Pass};
@@ -34,11 +34,11 @@ impl<'p> Grows for Counter<'p> {
 /// Lets the value grow, and gives the size of the history that the pass has then seen.
 pub fn grow<V: Grows, R: Wait>(rt: &R, lock: &KeptLock<V>, pass: &mut Pass<V>, me: u64) -> usize
     requires pass { IsPassOf lock.now pass.old }
-    requires number { (known pass.old).number ≡ me }
+    requires number { (knowledge pass.old).number ≡ me }
     ensures pass { IsPassOf lock.now pass.new }
-    ensures number { (known pass.new).number ≡ me }
-    ensures seen { StartsWith (known pass.new).seen (known pass.old).seen }
-    ensures size { result ≡ length (known pass.new).seen }
+    ensures number { (knowledge pass.new).number ≡ me }
+    ensures seen { StartsWith (knowledge pass.new).seen (knowledge pass.old).seen }
+    ensures size { result ≡ length (knowledge pass.new).seen }
 {
     let mut guard = lock.enter(rt, pass);
     guard.get_mut().grow(me);
@@ -55,10 +55,10 @@ pub fn add_one<'p, R: Wait>(
     me: u64,
 ) -> usize
     requires pass { IsPassOf lock.now pass.old }
-    requires number { (known pass.old).number ≡ me }
+    requires number { (knowledge pass.old).number ≡ me }
     ensures pass { IsPassOf lock.now pass.new }
-    ensures seen { StartsWith (known pass.new).seen (known pass.old).seen }
-    ensures size { result ≡ length (known pass.new).seen }
+    ensures seen { StartsWith (knowledge pass.new).seen (knowledge pass.old).seen }
+    ensures size { result ≡ length (knowledge pass.new).seen }
 {
     grow(rt, lock, pass, me)
 }

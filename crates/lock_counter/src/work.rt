@@ -1,6 +1,6 @@
 // What a thread does with the lock.
 ghost use Rattle.std.specs.Prelude.{◌≡◌, ◌≤◌, ◌∷◌, ◌%◌, ◌^◌, [], MatchResult, OnOk, length, sum_by, replicate};
-ghost use Rattle.kept_lock.specs.Locks.{known, IsPassOf};
+ghost use Rattle.kept_lock.specs.Locks.{knowledge, IsPassOf};
 ghost use Rattle.lock_counter.specs.Counters.{StandsFor, Added, addition};
 ghost use Rattle.lock_counter.specs.Passes.{Made, MadeAsTold, AddedAsTold};
 
@@ -18,9 +18,9 @@ pub fn add<'p, R: Wait>(
     amount: u64,
 ) -> Result<(), OutOfMemory>
     requires pass { IsPassOf lock.now pass.old }
-    requires number { (known pass.old).number ≡ me }
+    requires number { (knowledge pass.old).number ≡ me }
     ensures pass { IsPassOf lock.now pass.new }
-    ensures made { MatchResult result (λ _. Made (known pass.old) (known pass.new) (addition me amount ∷ [])) (λ _. Made (known pass.old) (known pass.new) []) }
+    ensures made { MatchResult result (λ _. Made (knowledge pass.old) (knowledge pass.new) (addition me amount ∷ [])) (λ _. Made (knowledge pass.old) (knowledge pass.new) []) }
 {
     lock.visit(
         rt,
@@ -42,10 +42,10 @@ pub fn add_times<'p, R: Wait>(
     times: u64,
 ) -> Result<(), OutOfMemory>
     requires pass { IsPassOf lock.now pass.old }
-    requires number { (known pass.old).number ≡ me }
+    requires number { (knowledge pass.old).number ≡ me }
     ensures pass { IsPassOf lock.now pass.new }
-    ensures number { (known pass.new).number ≡ me }
-    ensures made { OnOk result (Made (known pass.old) (known pass.new) (replicate times (addition me amount))) }
+    ensures number { (knowledge pass.new).number ≡ me }
+    ensures made { OnOk result (Made (knowledge pass.old) (knowledge pass.new) (replicate times (addition me amount))) }
 {
     for _ in 0..times {
         add(rt, lock, pass, me, amount)?;
@@ -57,8 +57,8 @@ pub fn add_times<'p, R: Wait>(
 pub fn total<'p, R: Wait>(rt: &R, lock: &KeptLock<Counter<'p>>, pass: &mut Pass<Counter<'p>>) -> u64
     requires { IsPassOf lock.now pass.old }
     ensures pass { IsPassOf lock.now pass.new }
-    ensures made { Made (known pass.old) (known pass.new) [] }
-    ensures sum { result ≡ sum_by (λ e. e.amount) (known pass.new).seen % 2 ^ 64 }
+    ensures made { Made (knowledge pass.old) (knowledge pass.new) [] }
+    ensures sum { result ≡ sum_by (λ e. e.amount) (knowledge pass.new).seen % 2 ^ 64 }
 {
     lock.look(
         rt,
@@ -81,9 +81,9 @@ pub fn add_below<'p, R: Wait>(
     wakes: Wakes,
 ) -> Result<bool, OutOfMemory>
     requires pass { IsPassOf lock.now pass.old }
-    requires number { (known pass.old).number ≡ me }
+    requires number { (knowledge pass.old).number ≡ me }
     ensures pass { IsPassOf lock.now pass.new }
-    ensures made { MadeAsTold (known pass.old) (known pass.new) (addition me amount) result }
+    ensures made { MadeAsTold (knowledge pass.old) (knowledge pass.new) (addition me amount) result }
 {
     let tried = lock.attempt(
         rt,
@@ -123,8 +123,8 @@ pub fn wait_for<'p, R: Wait>(
 ) -> u64
     requires { IsPassOf lock.now pass.old }
     ensures pass { IsPassOf lock.now pass.new }
-    ensures made { Made (known pass.old) (known pass.new) [] }
-    ensures reached { least ≤ sum_by (λ e. e.amount) (known pass.new).seen % 2 ^ 64 }
+    ensures made { Made (knowledge pass.old) (knowledge pass.new) [] }
+    ensures reached { least ≤ sum_by (λ e. e.amount) (knowledge pass.new).seen % 2 ^ 64 }
 {
     let mut looks = 0u64;
     for _ in rt.forever() {

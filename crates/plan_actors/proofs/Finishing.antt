@@ -11,7 +11,7 @@ use Rattle.wave_base.specs.declared.path.Path.{Path}
 use Rattle.wave_base.specs.declared.script.Line.{Line}
 use Rattle.wave_base.specs.declared.shot.Shot.{Shot}
 use Rattle.wave_base.specs.declared.start.Start.{Start}
-use Rattle.wave_base.specs.Fold.{Head, Progress, first_head, next_job, with_job, made, created_lines}
+use Rattle.wave_base.specs.Fold.{Head, Progress, first_head, next_job, with_job, created_tickets, created_lines}
 use Rattle.std.specs.List.Sorted.{IsStrictlySortedBy}
 use Rattle.wave_base.specs.Paths.{path_eq, path_cmp}
 use Rattle.wave_base.specs.Places.{load_of}
@@ -133,8 +133,8 @@ module _ (plan : Plan) (fits : Fits plan) (start : Start) (begins : FitsStart pl
             some_same x r.0 (sym (t.results i x e) ∙ ap (λ n. (s.cells (n + i)).result) (sym firsts) ∙ r.1)
             ∙ some_same r.0 y (sym r.2 ∙ ap (λ (w : Progress Fields EventResult Line). slice_get w.results i) fold_whole ∙ g)
 
-    made_are : f.made ≡ map (map ticket_of) (made start.next.0 (first_head plan.script.batches) (map created_lines whole.results))
-    made_are = t.made_is ∙ ap (λ rs. map (map ticket_of) (made start.next.0 (first_head plan.script.batches) (map created_lines rs))) results_are
+    made_are : f.made ≡ map (map ticket_of) (created_tickets start.next.0 (first_head plan.script.batches) (map created_lines whole.results))
+    made_are = t.made_is ∙ ap (λ rs. map (map ticket_of) (created_tickets start.next.0 (first_head plan.script.batches) (map created_lines rs))) results_are
 
     names_are : f.names ≡ map name_of whole.head.known
     names_are = t.names ∙ ap (λ (h : Head Line). map name_of h.known) head_whole

@@ -9,7 +9,7 @@ use Rattle.wave_base.specs.declared.path.Path.{Path}
 use Rattle.wave_base.specs.declared.script.Line.{Line}
 use Rattle.wave_base.specs.declared.shot.Shot.{Shot}
 use Rattle.wave_base.specs.declared.start.Start.{Start}
-use Rattle.wave_base.specs.Fold.{first_head, made, created_lines}
+use Rattle.wave_base.specs.Fold.{first_head, created_tickets, created_lines}
 use Rattle.wave_base.specs.Paths.{path_eq, path_cmp}
 use Rattle.script_fold.specs.Lines.{name_of}
 use Rattle.script_fold.specs.Runs.{ticket_of}
@@ -50,7 +50,7 @@ module _ (s : State Actor Fields EventResult Line) where
   pub record Tells (start : Start) (batches : List (List Line)) (f : Finished) : Type 0 where
     pub count : length f.results ≡ s.head.done
     pub results : (i : ℕ) (r : EventResult) → slice_get f.results i ≡ Some r → (s.cells (start.next.0 + i)).result ≡ Some r
-    pub made_is : f.made ≡ map (map ticket_of) (made start.next.0 (first_head batches) (map created_lines f.results))
+    pub made_is : f.made ≡ map (map ticket_of) (created_tickets start.next.0 (first_head batches) (map created_lines f.results))
     pub names : f.names ≡ map name_of s.head.known
     pub ordered : IsStrictlySortedBy path_cmp (map path_of f.places)
     pub all_there : (p : Path) (host : ℕ) → IsOn p host → list_any (path_eq p) (map path_of f.places) ≡ true

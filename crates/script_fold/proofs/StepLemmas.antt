@@ -12,7 +12,7 @@ use Rattle.wave_base.specs.declared.shape.Shape.{Shape}
 use Rattle.wave_base.specs.declared.shot.Shot.{Shot}
 use Rattle.wave_base.specs.declared.start.Start.{Start}
 use Rattle.wave_base.specs.declared.value.Value.{Value}
-use Rattle.wave_base.specs.Fold.{Head, Ran, Progress, first_head, next_job, with_done, head_after, tickets_of, made, with_result, with_job, created_lines}
+use Rattle.wave_base.specs.Fold.{Head, Ran, Progress, first_head, next_job, with_done, head_after, tickets_of, created_tickets, with_result, with_job, created_lines}
 use Rattle.wave_base.specs.Places.{with_contexts, after_job, move_in, move_of}
 use Rattle.wave_base.specs.Tree.{Tree, there}
 use Rattle.context_tree.specs.Contexts.{tree_of, as_pair}
@@ -44,7 +44,7 @@ any_ticket meaning a b t (Request call) = refl
 any_ticket meaning a b t (Move p h) = refl
 any_ticket meaning a b t Snapshot = refl
 
-made_push : (first : ℕ) (h : Head Line) (cs : List (List Line)) (c : List Line) → made first h (cs ++ c ∷ []) ≡ made first h cs ++ tickets_of first (head_after h cs) c ∷ []
+made_push : (first : ℕ) (h : Head Line) (cs : List (List Line)) (c : List Line) → created_tickets first h (cs ++ c ∷ []) ≡ created_tickets first h cs ++ tickets_of first (head_after h cs) c ∷ []
 made_push first h [] c = refl
 made_push first h (d ∷ cs) c = ap (λ ts. tickets_of first h d ∷ ts) (made_push first (with_done h d) cs c)
 
@@ -150,8 +150,8 @@ module _ (shape : Shape) (meaning : Meaning) (FitsTree : Tree (List Value) → T
               results = results ∙ (λ i. s.kept.results i ++ result_ran i ∷ []);
               made_is = ap (map (map (λ t. t.0))) made_is ∙ map-append (map (λ t. t.0)) f.made.items (ts ∷ [])
                   ∙ (λ i. s.kept.made_is i ++ (tickets ∙ ap (tickets_of start.next.0 here.head) created) i ∷ [])
-                  ∙ (λ i. made start.next.0 (first_head script.batches) (map created_lines here.results) ++ tickets_of start.next.0 (sym good.heads i) (created_lines ran.result) ∷ [])
-                  ∙ sym (made_push start.next.0 (first_head script.batches) (map created_lines here.results) (created_lines ran.result)) ∙ ap (made start.next.0 (first_head script.batches)) (sym known);
+                  ∙ (λ i. created_tickets start.next.0 (first_head script.batches) (map created_lines here.results) ++ tickets_of start.next.0 (sym good.heads i) (created_lines ran.result) ∷ [])
+                  ∙ sym (made_push start.next.0 (first_head script.batches) (map created_lines here.results) (created_lines ran.result)) ∙ ap (created_tickets start.next.0 (first_head script.batches)) (sym known);
               names = names ∙ (λ i. s.kept.names i ++ name_is i ∷ []) ∙ sym (map-append name_of s.done (line ∷ []));
               visits = subst (λ (t : Tree ℕ). IsVisited t (here.entered ++ ran.entered ∷ []) [] g.visits) (sym hosts_further)
                   (subst (λ (r : EventResult). IsVisited (after_job (hosts_after start here) ran.entered (move_of r)) (here.entered ++ ran.entered ∷ []) [] g.visits) result_ran

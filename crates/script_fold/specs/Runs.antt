@@ -12,7 +12,7 @@ use Rattle.wave_base.specs.declared.script.Script.{Script}
 use Rattle.wave_base.specs.declared.shape.Shape.{Shape}
 use Rattle.wave_base.specs.declared.start.Start.{Start}
 use Rattle.wave_base.specs.declared.value.Value.{Value}
-use Rattle.wave_base.specs.Fold.{Progress, first_head, first_progress, fold_jobs, made, created_lines}
+use Rattle.wave_base.specs.Fold.{Progress, first_head, first_progress, fold_jobs, created_tickets, created_lines}
 use Rattle.wave_base.specs.Places.{places_after, move_of, load_of}
 use Rattle.wave_base.specs.Starts.{start_tree, start_places}
 use Rattle.wave_base.specs.Tree.{Tree, shots}
@@ -42,7 +42,7 @@ place_of x = record { path = x.0; host = record { 0 = x.1 } }
 abbrev pub finished_by : Start → Script → Progress (List Value) EventResult Line → Finished
 finished_by start script w = record {
   results = w.results;
-  made = map (map ticket_of) (made start.next.0 (first_head script.batches) (map created_lines w.results));
+  made = map (map ticket_of) (created_tickets start.next.0 (first_head script.batches) (map created_lines w.results));
   names = map name_of w.head.known;
   places = map place_of (shots (hosts_after start w));
   shots = map shot_of (shots w.tree);

@@ -29,14 +29,14 @@ kept_stack function i ks =
     must rule.Stack (nat_le (length ks) function.stack) (must rule.Stack (not (ends i) || is_empty ks) (Ok ks))
 
 -- two arrivals have the same height, and the same class and kinds
-abbrev pub agreed : Point → Point → Table → Judged Table
-agreed p q t =
+abbrev pub agreement : Point → Point → Table → Judged Table
+agreement p q t =
     must rule.Stack (length p.stack == length q.stack)
     (must rule.Kind (p.class.0 == q.class.0) (must rule.Kind (pointwise kind_eq p.stack q.stack) (Ok t)))
 
 abbrev pub arrived_at : ℕ → Point → Option Point → Table → Judged Table
 arrived_at n p None t = Ok (slice_set t n (Some p))
-arrived_at n p (Some q) t = agreed p q t
+arrived_at n p (Some q) t = agreement p q t
 
 -- an arrival at an instruction, which must be there
 abbrev pub arrival : ℕ → Point → Table → Judged Table

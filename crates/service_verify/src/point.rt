@@ -2,7 +2,7 @@
 
 ghost use Rattle.std.specs.Prelude.{◌≡◌, length, IfOk, MatchResult, Ok, Err};
 ghost use Rattle.std.specs.Cmp.Lexicographic.{pointwise};
-ghost use Rattle.service_verify.specs.Points.{agreed};
+ghost use Rattle.service_verify.specs.Points.{agreement};
 ghost use Rattle.service_verify.specs.Rules.{kind_eq};
 
 use crate::error::Rule;
@@ -32,7 +32,7 @@ impl Point {
 
     /// Whether an arrival at this point may come where the other one was first.
     pub fn agrees(&self, first: &Point) -> Result<(), Rule>
-        ensures { MatchResult result (λ u. (t : _) → agreed self.now first.now t ≡ Ok t) (λ r. (t : _) → agreed self.now first.now t ≡ Err r) }
+        ensures { MatchResult result (λ u. (t : _) → agreement self.now first.now t ≡ Ok t) (λ r. (t : _) → agreement self.now first.now t ≡ Err r) }
     {
         if self.stack.len() != first.stack.len() {
             Err(Rule::Stack)

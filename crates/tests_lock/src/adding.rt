@@ -2,7 +2,7 @@
 
 ghost use Rattle.std.specs.Prelude.{◌≡◌, IfOk};
 ghost use Rattle.kept_lock.specs.Knowing.{first as opening};
-ghost use Rattle.kept_lock.specs.Locks.{known, IsPassOf};
+ghost use Rattle.kept_lock.specs.Locks.{knowledge, IsPassOf};
 ghost use Rattle.lock_counter.specs.Jobs.{IsReady, IsDone};
 
 use kept_lock::{KeptLock, Pass, Wakes};
@@ -106,7 +106,7 @@ fn two_jobs<'l, 'p>(
     times: u64,
 ) -> (Job<'l, 'p>, Job<'l, 'p>)
     requires pass { IsPassOf lock.now first }
-    requires first { known first ≡ opening }
+    requires first { knowledge first ≡ opening }
     ensures ready { IsReady result.0 × IsReady result.1 }
     ensures lock { (result.0.lock ≡ lock.entry) × (result.1.lock ≡ lock.entry) }
     ensures numbers { (result.0.me ≡ 0) × (result.1.me ≡ 1) }
@@ -194,7 +194,7 @@ fn one_naps_until_it_is_woken_alone(rt: HostRuntime) -> Result<(), Fail> {
 // Adds one at a time, and takes its time in between.
 fn add_slowly<'l, 'p, R: Wait>(rt: &R, job: Job<'l, 'p>) -> Result<Pass<Counter<'p>>, OutOfMemory>
     requires { IsReady job }
-    ensures { IfOk result (λ pass. IsPassOf job.entry.lock.now pass × ((known pass).number ≡ job.entry.me)) }
+    ensures { IfOk result (λ pass. IsPassOf job.entry.lock.now pass × ((knowledge pass).number ≡ job.entry.me)) }
 {
     let Job {
         lock,

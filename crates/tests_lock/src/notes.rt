@@ -1,7 +1,7 @@
 //! Notes under the lock: what comes back of it and when a nap ends, call by call.
 
 ghost use Rattle.std.specs.Prelude.{◌≡◌, ◌++◌, ◌∷◌, [], MatchResult};
-ghost use Rattle.kept_lock.specs.Locks.{known, IsPassOf};
+ghost use Rattle.kept_lock.specs.Locks.{knowledge, IsPassOf};
 
 use crate::cross::{sent_lock, sent_pass, shared_lock};
 use kept_lock::{Kept, KeptLock, Parting, Pass, Wakes, passes_share_one_history};
@@ -57,10 +57,10 @@ fn add<R: Wait>(
     note: u64,
 ) -> Result<(), OutOfMemory>
     requires pass { IsPassOf lock.now pass.old }
-    requires number { (known pass.old).number ≡ me }
+    requires number { (knowledge pass.old).number ≡ me }
     ensures pass { IsPassOf lock.now pass.new }
-    ensures number { (known pass.new).number ≡ me }
-    ensures passes { (known pass.new).passes ≡ (known pass.old).passes }
+    ensures number { (knowledge pass.new).number ≡ me }
+    ensures passes { (knowledge pass.new).passes ≡ (knowledge pass.old).passes }
 {
     let mut guard = lock.enter(rt, pass);
     let added = guard.get_mut().add(me, note);
@@ -72,7 +72,7 @@ fn add<R: Wait>(
 fn look<R: Wait>(rt: &R, lock: &KeptLock<Notes>, pass: &mut Pass<Notes>) -> (u64, usize)
     requires { IsPassOf lock.now pass.old }
     ensures pass { IsPassOf lock.now pass.new }
-    ensures number { (known pass.new).number ≡ (known pass.old).number }
+    ensures number { (knowledge pass.new).number ≡ (knowledge pass.old).number }
 {
     let guard = lock.enter(rt, pass);
     let notes = guard.get();
@@ -179,7 +179,7 @@ fn a_joined_pass_keeps_its_own_last_leave(rt: HostRuntime) -> Result<(), Fail> {
 fn call<R: Wait>(rt: &R, lock: &KeptLock<Notes>, pass: &mut Pass<Notes>, wakes: Wakes) -> u8
     requires { IsPassOf lock.now pass.old }
     ensures pass { IsPassOf lock.now pass.new }
-    ensures number { (known pass.new).number ≡ (known pass.old).number }
+    ensures number { (knowledge pass.new).number ≡ (knowledge pass.old).number }
 {
     let called = lock.attempt(rt, pass, |_notes: &mut Notes| -> Parting<u8> {
         Parting { told: 7, wakes }

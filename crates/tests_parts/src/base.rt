@@ -38,3 +38,51 @@ fn keeps_pairs_in_key_order(rt: HostRuntime) -> Result<(), Fail> {
     assert!(rt; copy != table);
     Ok(())
 }
+
+#[test]
+fn moves_the_shorter_side(rt: HostRuntime) -> Result<(), Fail> {
+    let mut table = Table::new(rt.alloc());
+    // No place is free before the first, also for a key of the front half.
+    for key in [10, 20, 30, 40, 50, 60, 15] {
+        assert!(rt; table.put(key, key).is_ok());
+    }
+    // Two cut in the front half leave two places free, and a new key there takes one.
+    assert!(rt; table.cut(10));
+    assert!(rt; table.cut(20));
+    assert!(rt; table.put(12, 12).is_ok());
+    // The back half.
+    assert!(rt; table.put(55, 55).is_ok());
+    assert!(rt; table.cut(60));
+    assert!(rt; table.put(30, 31).is_ok());
+    assert_eq!(rt; table.get(30), Some(31));
+    assert!(rt;
+        table.pairs() == [(12, 12), (15, 15), (30, 31), (40, 40), (50, 50), (55, 55)].as_slice()
+    );
+    let copy = table.copy()?;
+    assert!(rt; copy == table);
+    // More places are free than pairs are left.
+    for key in [12, 15, 30, 40, 50] {
+        assert!(rt; table.cut(key));
+    }
+    assert!(rt; table.pairs() == [(55, 55)].as_slice());
+    assert!(rt; table.put(5, 5).is_ok());
+    assert!(rt; table.pairs() == [(5, 5), (55, 55)].as_slice());
+    Ok(())
+}
+
+#[test]
+fn keeps_the_pairs_of_a_queue(rt: HostRuntime) -> Result<(), Fail> {
+    let mut table = Table::new(rt.alloc());
+    for key in 0..100i64 {
+        assert!(rt; table.put(key, key).is_ok());
+    }
+    for turn in 0..10_000i64 {
+        assert!(rt; table.cut(turn));
+        assert!(rt; table.put(turn + 100, turn).is_ok());
+    }
+    assert_eq!(rt; table.len(), 100);
+    assert_eq!(rt; table.key_at(0), Some(10_000));
+    assert_eq!(rt; table.key_at(99), Some(10_099));
+    assert_eq!(rt; table.get(10_099), Some(9_999));
+    Ok(())
+}

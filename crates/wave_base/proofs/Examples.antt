@@ -2,7 +2,7 @@
 use Rattle.std.proofs.Common.{◌≡◌, ℕ, ◌+◌, ◌==◌, if◌then◌else◌, true, false, List, [], ◌∷◌, Some, None, pos, refl}
 use Rattle.wave_base.specs.declared.path.Step.{Step}
 use Rattle.wave_base.specs.declared.path.Path.{Path}
-use Rattle.wave_base.specs.Fold.{Ran, Progress, first_head, jobs, made, first_progress, fold_jobs, is_over}
+use Rattle.wave_base.specs.Fold.{Ran, Progress, first_head, jobs, created_tickets, first_progress, fold_jobs, is_over}
 use Rattle.wave_base.specs.Places.{after_job}
 use Rattle.wave_base.specs.Tree.{Tree, bare, put, shots}
 
@@ -10,7 +10,7 @@ use Rattle.wave_base.specs.Tree.{Tree, bare, put, shots}
 one_batch : jobs {J = ℕ} ((10 ∷ 20 ∷ []) ∷ []) ((30 ∷ 40 ∷ []) ∷ [] ∷ []) ≡ 10 ∷ 20 ∷ 30 ∷ 40 ∷ []
 one_batch = refl
 
-one_batch_tickets : made {J = ℕ} 1 (first_head ((10 ∷ 20 ∷ []) ∷ [])) ((30 ∷ 40 ∷ []) ∷ [] ∷ [] ∷ [] ∷ []) ≡ (3 ∷ 4 ∷ []) ∷ [] ∷ [] ∷ [] ∷ []
+one_batch_tickets : created_tickets {J = ℕ} 1 (first_head ((10 ∷ 20 ∷ []) ∷ [])) ((30 ∷ 40 ∷ []) ∷ [] ∷ [] ∷ [] ∷ []) ≡ (3 ∷ 4 ∷ []) ∷ [] ∷ [] ∷ [] ∷ []
 one_batch_tickets = refl
 
 -- in batches of their own, what the first one creates comes before the second
@@ -22,7 +22,7 @@ waits : jobs {J = ℕ} ((10 ∷ []) ∷ (20 ∷ []) ∷ []) ((30 ∷ 40 ∷ []) 
 waits = refl
 
 -- from ticket 8 on
-later_tickets : made {J = ℕ} 8 (first_head ((10 ∷ []) ∷ (20 ∷ []) ∷ [])) ((30 ∷ []) ∷ [] ∷ (50 ∷ []) ∷ []) ≡ (9 ∷ []) ∷ [] ∷ (11 ∷ []) ∷ []
+later_tickets : created_tickets {J = ℕ} 8 (first_head ((10 ∷ []) ∷ (20 ∷ []) ∷ [])) ((30 ∷ []) ∷ [] ∷ (50 ∷ []) ∷ []) ≡ (9 ∷ []) ∷ [] ∷ (11 ∷ []) ∷ []
 later_tickets = refl
 
 -- a counter at the root: each job adds its number and replies; 7 creates 1

@@ -13,7 +13,7 @@ use Rattle.std.specs.List.{slice_get}
 use Rattle.std.specs.Option.{option_map}
 use Rattle.std.proofs.lemmas.Option.{slice_get-map}
 use Rattle.std.proofs.lemmas.List.{length-set}
-use Rattle.std.proofs.lemmas.List.Edits.{length-insert}
+use Rattle.std.proofs.lemmas.List.Edits.{length-insert, length-remove}
 use Rattle.std.proofs.Common.{slice_set}
 use Rattle.wave_base.specs.inner.Places.{IsThere, IsGap, IsPlace}
 
@@ -206,8 +206,8 @@ table_set es k v i t h = record { rises = rw (h.sets v) (sorted_put k v es t.ris
 pub table_inserted : (es : List (ℤ × ℤ)) (k v : ℤ) (i : ℕ) → IsTable es → IsGap es k i → length es < 1000 → IsTable (insert es i (k, v))
 table_inserted es k v i t h l = record { rises = rw (h.inserts v) (sorted_put k v es t.rises); short = omega (arith, l, length-insert es i (k, v) h.within) }
 
-pub table_removed : (es : List (ℤ × ℤ)) (i : ℕ) → IsTable es → length (remove es i) ≤ 1000 → IsTable (remove es i)
-table_removed es i t l = record { rises = sorted_removed es i t.rises; short = l }
+pub table_removed : (es : List (ℤ × ℤ)) (i : ℕ) → IsTable es → i < length es → IsTable (remove es i)
+table_removed es i t l = record { rises = sorted_removed es i t.rises; short = omega (arith, t.short, length-remove es i l) }
 
 pub table_none : IsTable []
 table_none = record { rises = sorted_none; short = omega arith }

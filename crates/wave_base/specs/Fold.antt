@@ -52,9 +52,9 @@ module _ {J : Type 0} where
   tickets_of first h created = tickets_from (first + length h.known) (length created)
 
   -- for each result the tickets of what it creates
-  abbrev pub made : ℕ → Head J → List (List J) → List (List ℕ)
-  made first h [] = []
-  made first h (c ∷ cs) = tickets_of first h c ∷ made first (with_done h c) cs
+  abbrev pub created_tickets : ℕ → Head J → List (List J) → List (List ℕ)
+  created_tickets first h [] = []
+  created_tickets first h (c ∷ cs) = tickets_of first h c ∷ created_tickets first (with_done h c) cs
 
 -- what a job does, run whole on a tree: the tree after it, its result, and the paths that it entered, in order
 pub record Ran (F R : Type 0) : Type 0 where

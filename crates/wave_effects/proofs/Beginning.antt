@@ -4,7 +4,7 @@ use Rattle.std.specs.FinMap as table
 use Rattle.std.specs.Ordering.{nat_cmp}
 use Rattle.std.specs.Prelude.{map, slice_get, take, All}
 use Rattle.wave_base.specs.declared.start.Start.{Start}
-use Rattle.wave_base.specs.Fold.{first_head, head_after, made}
+use Rattle.wave_base.specs.Fold.{first_head, head_after, created_tickets}
 use Rattle.event_cells.specs.declared.cell.JobKind.{JobKind}
 use Rattle.wave_effects.specs.Kinds.{job_kind}
 use Rattle.script_fold.specs.Runs.{ticket_of}
@@ -59,7 +59,7 @@ module _ (plan : Plan) (start : Start) (fits : Fits plan) (begins : FitsStart pl
         ledger = record {
           kinds = no_kinds ∙ sym (ap (λ n. map job_kind (take n the_start.head.known)) admitted);
           head = sym (ap (λ xs. head_after (first_head plan.script.batches) (created_in xs)) no_results);
-          made = ap (map (λ (x : Settled). x.made)) no_results ∙ sym (ap (λ xs. map (map ticket_of) (made start.next.0 (first_head plan.script.batches) (created_in xs))) no_results);
+          made = ap (map (λ (x : Settled). x.made)) no_results ∙ sym (ap (λ xs. map (map ticket_of) (created_tickets start.next.0 (first_head plan.script.batches) (created_in xs))) no_results);
         };
       };
       stores = record { as_many = many; each = at };

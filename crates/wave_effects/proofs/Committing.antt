@@ -9,7 +9,7 @@ use Rattle.std.proofs.Math.Seq.{take-append_seam}
 use Rattle.wave_base.specs.declared.outcome.EventResult.{EventResult}
 use Rattle.wave_base.specs.declared.numbers.Ticket.{Ticket}
 use Rattle.wave_base.specs.declared.script.Line.{Line}
-use Rattle.wave_base.specs.Fold.{Head, created_lines, first_head, head_after, made, tickets_of, with_done}
+use Rattle.wave_base.specs.Fold.{Head, created_lines, first_head, head_after, created_tickets, tickets_of, with_done}
 use Rattle.wave_effects.specs.Kinds.{job_kind}
 use Rattle.script_fold.specs.Runs.{ticket_of}
 use Rattle.script_fold.proofs.LeftLemmas.{head_push}
@@ -73,16 +73,16 @@ module _ (m : Kept) (s : TheState) (h : Shows m s) (r : EventResult) (x : Settle
   made_now : x.made ≡ map ticket_of (tickets_of m.first (head_after (first_head m.plan.script.batches) (created_in m.settled.results)) (created_lines r))
   made_now = sym (tickets_back x.made) ∙ ap (map ticket_of) (tickets h.head.lines h.head.as_many ∙ ap (λ n. tickets_of n (head_of h.head.lines m.head) (created_lines r)) h.head.first ∙ ap (λ (z : Head Line). tickets_of m.first z (created_lines r)) (sym h.head.head ∙ h.results.ledger.head))
 
-  ledger_made : map (λ y. y.made) (m.settled.results ++ x ∷ []) ≡ map (map ticket_of) (made m.first (first_head m.plan.script.batches) (created_in (m.settled.results ++ x ∷ [])))
+  ledger_made : map (λ y. y.made) (m.settled.results ++ x ∷ []) ≡ map (map ticket_of) (created_tickets m.first (first_head m.plan.script.batches) (created_in (m.settled.results ++ x ∷ [])))
   ledger_made =
       let fh = first_head m.plan.script.batches in
       let cs = created_in m.settled.results in
       map-append (λ (y : Settled). y.made) m.settled.results (x ∷ [])
       ∙ ap (λ (ts : List (List Ticket)). ts ++ x.made ∷ []) h.results.ledger.made
-      ∙ ap (λ (ts : List Ticket). map (map ticket_of) (made m.first fh cs) ++ ts ∷ []) made_now
-      ∙ sym (map-append (map ticket_of) (made m.first fh cs) (tickets_of m.first (head_after fh cs) (created_lines r) ∷ []))
+      ∙ ap (λ (ts : List Ticket). map (map ticket_of) (created_tickets m.first fh cs) ++ ts ∷ []) made_now
+      ∙ sym (map-append (map ticket_of) (created_tickets m.first fh cs) (tickets_of m.first (head_after fh cs) (created_lines r) ∷ []))
       ∙ ap (map (map ticket_of)) (sym (made_push m.first fh cs (created_lines r)))
-      ∙ ap (λ ds. map (map ticket_of) (made m.first fh ds)) (sym created_is)
+      ∙ ap (λ ds. map (map ticket_of) (created_tickets m.first fh ds)) (sym created_is)
 
   each_result : (i : ℕ) (y : Settled) → slice_get (m.settled.results ++ x ∷ []) i ≡ Some y → (s.cells (m.first + i)).result ≡ Some y.result
   each_result i y e = by_place (at_push m.settled.results x i y e)

@@ -8,7 +8,7 @@ use Rattle.wave_base.specs.declared.outcome.EventResult.{EventResult}
 use Rattle.wave_base.specs.declared.script.Line.{Line}
 use Rattle.wave_base.specs.declared.start.Start.{Start}
 use Rattle.event_cells.specs.declared.cell.JobKind.{JobKind}
-use Rattle.wave_base.specs.Fold.{Head, Progress, Ran, created_lines, first_head, head_after, made, next_job, one_more, tickets_of, with_done, with_job}
+use Rattle.wave_base.specs.Fold.{Head, Progress, Ran, created_lines, first_head, head_after, created_tickets, next_job, one_more, tickets_of, with_done, with_job}
 use Rattle.wave_base.specs.Tree.{Tree}
 use Rattle.script_fold.specs.Lines.{name_of}
 use Rattle.script_fold.specs.Runs.{finished_of, ticket_of, whole_run}
@@ -49,7 +49,7 @@ created_front (r ∷ rs) (w ∷ ws) h =
     let rest = created_front rs ws (λ i y e. h (suc i) y e) in
     (rest.0, ap₂ (λ c cs. c ∷ cs) (ap created_lines (some_same w r.result (h 0 r refl))) rest.1)
 
-made_append : (first : ℕ) (h : Head Line) (cs ds : List (List Line)) → made first h (cs ++ ds) ≡ made first h cs ++ made first (head_after h cs) ds
+made_append : (first : ℕ) (h : Head Line) (cs ds : List (List Line)) → created_tickets first h (cs ++ ds) ≡ created_tickets first h cs ++ created_tickets first (head_after h cs) ds
 made_append first h [] ds = refl
 made_append first h (c ∷ cs) ds = ap (λ ts. tickets_of first h c ∷ ts) (made_append first (with_done h c) cs ds)
 
@@ -94,18 +94,18 @@ module _ (m : Kept) (start : Start) (s : TheState) (stands : Stands m start s) (
       ∙ ap (option_map name_of) (ap (λ (w : Progress Fields EventResult Line). slice_get w.head.known i) (sym whole) ∙ there) ∙ ap Some (sym (name_is x.0) ∙ ap name_in (sym x.2))
 
   one_made : (i : ℕ) (y : Settled) → slice_get m.settled.results i ≡ Some y
-      → slice_get (map (map ticket_of) (made start.next.0 (first_head m.plan.script.batches) (map created_lines (whole_run (code_ran m.plan.program) m.plan.program.shape start m.plan.script).results))) i ≡ Some y.made
+      → slice_get (map (map ticket_of) (created_tickets start.next.0 (first_head m.plan.script.batches) (map created_lines (whole_run (code_ran m.plan.program) m.plan.program.shape start m.plan.script).results))) i ≡ Some y.made
   one_made i y e =
       let fh = first_head m.plan.script.batches in
       let ws = (whole_run (code_ran m.plan.program) m.plan.program.shape start m.plan.script).results in
       let cs = created_in m.settled.results in
       let front = created_front m.settled.results ws one_result in
-      let ours : slice_get (map (map ticket_of) (made m.first fh cs)) i ≡ Some y.made =
+      let ours : slice_get (map (map ticket_of) (created_tickets m.first fh cs)) i ≡ Some y.made =
       ap (λ ts. slice_get ts i) (sym h.results.ledger.made) ∙ slice_get-map (λ (x : Settled). x.made) m.settled.results i ∙ ap (option_map (λ (x : Settled). x.made)) e in
-      let t = map_some (map ticket_of) (slice_get (made m.first fh cs) i) y.made (sym (slice_get-map (map ticket_of) (made m.first fh cs) i) ∙ ours) in
-      let more : slice_get (made start.next.0 fh (map created_lines ws)) i ≡ Some t.0 =
-      ap₂ (λ k ds. slice_get (made k fh ds) i) (sym first_is) front.1 ∙ ap (λ ts. slice_get ts i) (made_append m.first fh cs front.0) ∙ slice_append (made m.first fh cs) (made m.first (head_after fh cs) front.0) i t.0 t.1 in
-      slice_get-map (map ticket_of) (made start.next.0 fh (map created_lines ws)) i ∙ ap (option_map (map ticket_of)) more ∙ ap Some (sym t.2)
+      let t = map_some (map ticket_of) (slice_get (created_tickets m.first fh cs) i) y.made (sym (slice_get-map (map ticket_of) (created_tickets m.first fh cs) i) ∙ ours) in
+      let more : slice_get (created_tickets start.next.0 fh (map created_lines ws)) i ≡ Some t.0 =
+      ap₂ (λ k ds. slice_get (created_tickets k fh ds) i) (sym first_is) front.1 ∙ ap (λ ts. slice_get ts i) (made_append m.first fh cs front.0) ∙ slice_append (created_tickets m.first fh cs) (created_tickets m.first (head_after fh cs) front.0) i t.0 t.1 in
+      slice_get-map (map ticket_of) (created_tickets start.next.0 fh (map created_lines ws)) i ∙ ap (option_map (map ticket_of)) more ∙ ap Some (sym t.2)
 
   pub line_is : (i : ℕ) (x : Shown) → IsKept m.settled.results m.settled.kinds i x → IsLineOf (finished_of (code_ran m.plan.program) m.plan.program.shape start m.plan.script) i x
   line_is i x is = record {

@@ -3,7 +3,7 @@ use Rattle.std.proofs.Common.{◌≡◌, ◌⊎◌, inl, inr, ℕ, zero, suc, Li
 use Rattle.std.specs.Prelude.{slice_get}
 use Rattle.wave_base.specs.declared.numbers.Ticket.{Ticket}
 use Rattle.wave_base.specs.declared.script.Line.{Line}
-use Rattle.wave_base.specs.Fold.{Head, head_after, made, tickets_of, with_done}
+use Rattle.wave_base.specs.Fold.{Head, head_after, created_tickets, tickets_of, with_done}
 use Rattle.script_fold.specs.Runs.{ticket_of}
 
 -- an element of it: one that was there, or the new one
@@ -30,7 +30,7 @@ slice_past [] ys = refl
 slice_past (x ∷ xs) ys = slice_past xs ys
 
 -- one more result: the tickets of what it creates
-pub made_push : (first : ℕ) (h : Head Line) (cs : List (List Line)) (c : List Line) → made first h (cs ++ c ∷ []) ≡ made first h cs ++ tickets_of first (head_after h cs) c ∷ []
+pub made_push : (first : ℕ) (h : Head Line) (cs : List (List Line)) (c : List Line) → created_tickets first h (cs ++ c ∷ []) ≡ created_tickets first h cs ++ tickets_of first (head_after h cs) c ∷ []
 made_push first h [] c = refl
 made_push first h (d ∷ cs) c = ap (λ ts. tickets_of first h d ∷ ts) (made_push first (with_done h d) cs c)
 

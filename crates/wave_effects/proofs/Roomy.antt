@@ -12,7 +12,7 @@ use Rattle.event_cells.specs.Cells as cells
 use Rattle.plan_actors.specs.Plans.{Plan, Fits, FitsStart}
 use Rattle.wave_effects.specs.declared.actor.Actor.{Actor}
 use Rattle.wave_effects.specs.declared.lease.Lease.{Lease}
-use Rattle.wave_base.specs.Fold.{first_head, head_after, made}
+use Rattle.wave_base.specs.Fold.{first_head, head_after, created_tickets}
 use Rattle.script_fold.specs.Runs.{ticket_of}
 use Rattle.wave_effects.specs.Kinds.{job_kind}
 use Rattle.wave_effects.specs.Machines.{TheState, Kept, Ledger, IsCell, IsReached, Keeps, Shows, created_in}
@@ -123,7 +123,7 @@ module _ (m m' : Kept) (same : SameButRooms m m') where
         kinds = ap (λ (x : Ledger). x.kinds) same.settled ∙ h.results.ledger.kinds ∙ ap (λ (x : Heading). map job_kind (take x.admitted s.head.known)) (sym same.head);
         head = h.results.ledger.head ∙ (λ j. head_after (first_head (sym same.plan j).script.batches) (created_in (sym same.settled j).results));
         made = ap (λ (x : Ledger). map (λ z. z.made) x.results) same.settled ∙ h.results.ledger.made
-            ∙ (λ j. map (map ticket_of) (made (sym same.first j) (first_head (sym same.plan j).script.batches) (created_in (sym same.settled j).results)));
+            ∙ (λ j. map (map ticket_of) (created_tickets (sym same.first j) (first_head (sym same.plan j).script.batches) (created_in (sym same.settled j).results)));
       };
       ended = λ t l. h.results.ended t (subst (λ n. n < t) same.committed l) ∙ ap (λ r. table.get r t) (sym same.results);
     };

@@ -17,7 +17,7 @@ use Rattle.wave_base.specs.declared.script.Line.{Line}
 use Rattle.wave_base.specs.declared.script.Line.TheVariants.{Request, Move, Snapshot}
 use Rattle.wave_base.specs.declared.shot.Shot.{Shot}
 use Rattle.wave_base.specs.declared.start.Start.{Start}
-use Rattle.wave_base.specs.Fold.{Head, created_lines, first_head, made}
+use Rattle.wave_base.specs.Fold.{Head, created_lines, first_head, created_tickets}
 use Rattle.wave_base.specs.Paths.{path_cmp, path_eq}
 use Rattle.script_fold.specs.Lines.{name_of}
 use Rattle.script_fold.specs.Runs.{ticket_of}
@@ -154,8 +154,8 @@ module _ (laws : Laws) (heads : Heads) (completes : Completes) (loads_are : Load
         let x = map_some (λ (y : Settled). y.result) (slice_get m.settled.results i) r (sym (slice_get-map (λ (y : Settled). y.result) m.settled.results i) ∙ ap (λ xs. slice_get xs i) (sym results) ∙ e) in
         ap (λ n. (s.cells (n + i)).result) (sym first_is) ∙ h.results.settled i x.0 x.1 ∙ ap Some (sym x.2)
 
-    all_made : f.made ≡ map (map ticket_of) (made start.next.0 (first_head m.plan.script.batches) (map created_lines f.results))
-    all_made = made_is ∙ h.results.ledger.made ∙ ap₂ (λ n cs. map (map ticket_of) (made n (first_head m.plan.script.batches) cs)) first_is (sym (ap (map created_lines) results ∙ lines_created m.settled.results))
+    all_made : f.made ≡ map (map ticket_of) (created_tickets start.next.0 (first_head m.plan.script.batches) (map created_lines f.results))
+    all_made = made_is ∙ h.results.ledger.made ∙ ap₂ (λ n cs. map (map ticket_of) (created_tickets n (first_head m.plan.script.batches) cs)) first_is (sym (ap (map created_lines) results ∙ lines_created m.settled.results))
 
     one_shot : (i : ℕ) (x : Shot) → slice_get f.shots i ≡ Some x → IsShot s x
     one_shot i x e =

@@ -5,7 +5,7 @@ use Rattle.wave_base.specs.declared.outcome.EventResult.{EventResult}
 use Rattle.wave_base.specs.declared.path.Path.{Path}
 use Rattle.wave_base.specs.declared.script.Line.{Line}
 use Rattle.wave_base.specs.declared.start.Start.{Start}
-use Rattle.wave_base.specs.Fold.{first_head, head_after, made, created_lines}
+use Rattle.wave_base.specs.Fold.{first_head, head_after, created_tickets, created_lines}
 use Rattle.script_fold.specs.Runs.{ticket_of}
 use Rattle.service_code.specs.declared.program.Program.{Program}
 use Rattle.head_tickets.specs.Heads.{Heading, head_of}
@@ -97,7 +97,7 @@ module _ (m : Kept) (s : TheState) where
   pub record IsLedger : Type 0 where
     pub kinds : m.settled.kinds ≡ map job_kind (take m.head.admitted s.head.known)
     pub head : s.head ≡ head_after (first_head m.plan.script.batches) (created_in m.settled.results)
-    pub made : map (λ x. x.made) m.settled.results ≡ map (map ticket_of) (made m.first (first_head m.plan.script.batches) (created_in m.settled.results))
+    pub made : map (λ x. x.made) m.settled.results ≡ map (map ticket_of) (created_tickets m.first (first_head m.plan.script.batches) (created_in m.settled.results))
 
   -- the results: of the committed tickets in their order, and of those that are not committed
   pub record AreResults : Type 0 where

@@ -8,7 +8,7 @@ use Rattle.wave_io.specs.Streams.{AppendsFront}
 use Rattle.kept_lock.specs.declared.view.Known.{Known}
 use Rattle.kept_lock.specs.declared.lock.KeptLock.{KeptLock}
 use Rattle.kept_lock.specs.declared.lock.Pass.{Pass}
-use Rattle.kept_lock.specs.Locks.{name_of, known, IsPassOf}
+use Rattle.kept_lock.specs.Locks.{name_of, knowledge, IsPassOf}
 use Rattle.wave_effects.specs.declared.plan.Plan.{Plan}
 use Rattle.wave_board.specs.declared.board.Board.{Board}
 use Rattle.wave_board.specs.declared.origin.Origin.{Origin}
@@ -23,7 +23,7 @@ use Rattle.host_workers.specs.Passes.{IsReady}
 pub record IsSeated (lock : KeptLock Board Origin Trail) (pass : Pass Board Origin Trail) (plan : Plan) (worker : Worker) : Type 0 where
   pub of_lock : IsPassOf lock pass
   pub plan_is : (name_of lock).plan.now ≡ plan
-  pub ready : IsReady (name_of lock) (known pass) worker
+  pub ready : IsReady (name_of lock) (knowledge pass) worker
 
 -- the worker is the one that writes, from the first ticket of the origin's Start, and the plan is the origin's
 pub record IsAtPost (origin : Origin) (plan : Plan) (worker : Worker) (from : Ticket) : Type 0 where

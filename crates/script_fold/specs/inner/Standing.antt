@@ -9,7 +9,7 @@ use Rattle.wave_base.specs.declared.script.Script.{Script}
 use Rattle.wave_base.specs.declared.shape.Shape.{Shape}
 use Rattle.wave_base.specs.declared.start.Start.{Start}
 use Rattle.wave_base.specs.declared.value.Value.{Value}
-use Rattle.wave_base.specs.Fold.{Head, Progress, first_head, next_batch, made, created_lines, is_over}
+use Rattle.wave_base.specs.Fold.{Head, Progress, first_head, next_batch, created_tickets, created_lines, is_over}
 use Rattle.wave_base.specs.Paths.{path_cmp}
 use Rattle.wave_base.specs.Scripts.{IsScript}
 use Rattle.wave_base.specs.Starts.{IsStart}
@@ -53,7 +53,7 @@ module _ (meaning : Meaning) (shape : Shape) (start : Start) (script : Script) w
   pub record IsKept (done : List Line) (w : Progress (List Value) EventResult Line) (f : Folding) : Type 0 where
     pub tree : tree_of shape f.contexts ≡ w.tree
     pub results : f.results.items ≡ w.results
-    pub made_is : map (map (λ t. t.0)) f.made.items ≡ made start.next.0 (first_head script.batches) (map created_lines w.results)
+    pub made_is : map (map (λ t. t.0)) f.made.items ≡ created_tickets start.next.0 (first_head script.batches) (map created_lines w.results)
     pub names : f.names.items ≡ map name_of done
     pub visits : IsVisited (hosts_after start w) w.entered [] f.visits
 

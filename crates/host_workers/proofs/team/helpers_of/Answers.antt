@@ -1,5 +1,5 @@
 use Rattle.std.proofs.Common.{ap, arith}
-use Rattle.kept_lock.specs.Locks.{name_of, known}
+use Rattle.kept_lock.specs.Locks.{name_of, knowledge}
 use Rattle.wave_effects.specs.declared.plan.Plan.{Plan}
 use Rattle.host_workers.proofs.Teams.{next_ready, split_counts, split_ready}
 use Rattle.host_workers.proofs.team.helpers_of.Goals as goal
@@ -19,7 +19,7 @@ helper_of-requires g c =
     record {
       of_lock = c.split-pass.ensures.new;
       plan_is = c.requires.plan;
-      ready = next_ready (name_of c.args.post.now.lock.now) (known c.loop-number.first) (known c.split-pass.result) _ c.split-pass.ensures.next c.loop-number.invariant.passes (omega (arith, workers));
+      ready = next_ready (name_of c.args.post.now.lock.now) (knowledge c.loop-number.first) (knowledge c.split-pass.result) _ c.split-pass.ensures.next c.loop-number.invariant.passes (omega (arith, workers));
     }
 
 pub returns-in_err-push-clause-of_lock : goal.returns-in_err-push-clause-of_lock

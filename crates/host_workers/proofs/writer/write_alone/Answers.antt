@@ -1,5 +1,5 @@
 use Rattle.std.proofs.Common.{◌∙◌, arith}
-use Rattle.kept_lock.specs.Locks.{name_of, known}
+use Rattle.kept_lock.specs.Locks.{name_of, knowledge}
 use Rattle.host_workers.proofs.Writing.{goes_further, none_committed, none_written, rose_since, run_front, run_whole, still_committed}
 use Rattle.host_workers.proofs.writer.write_alone.Goals as goal
 
@@ -7,17 +7,17 @@ pub loop-init : goal.loop-init
 loop-init g c = record {
   of_lock = c.requires.of_lock;
   brings = c.requires.ready;
-  committed = none_committed (name_of c.args.post.now.lock.now) (known c.args.pass.now);
+  committed = none_committed (name_of c.args.post.now.lock.now) (knowledge c.args.pass.now);
   lines = none_written (name_of c.args.post.now.lock.now) _;
   later = omega arith;
 }
 
 pub follow-requires-clause-committed : goal.follow-requires-clause-committed
-follow-requires-clause-committed g c = still_committed _ (known c.loop.pass) _ _ c.visit-offer.ensures.on c.loop.invariant.committed
+follow-requires-clause-committed g c = still_committed _ (knowledge c.loop.pass) _ _ c.visit-offer.ensures.on c.loop.invariant.committed
 
 pub returns-then-more-clause-begun : goal.returns-then-more-clause-begun
 returns-then-more-clause-begun g c = record {
-  stands = record { offered = c.visit-offer.ensures.offered; committed = still_committed _ (known c.loop.pass) _ _ c.visit-offer.ensures.on c.loop.invariant.committed };
+  stands = record { offered = c.visit-offer.ensures.offered; committed = still_committed _ (knowledge c.loop.pass) _ _ c.visit-offer.ensures.on c.loop.invariant.committed };
   written = c.loop.invariant.lines;
 }
 
@@ -38,7 +38,7 @@ returns-in-Err-clause-ended g c =
     let later = c.in-Err.ensures.later in
     let h = c.in-Err.ensures.written in
     let origin = name_of c.args.post.now.lock.now in
-    let pass = known c.follow.new.pass in
+    let pass = knowledge c.follow.new.pass in
     record {
       number = h.0 ∙ c.requires.post.writes;
       ended = h.1;

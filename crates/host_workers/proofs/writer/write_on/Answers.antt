@@ -1,5 +1,5 @@
 use Rattle.std.proofs.Common.{◌∙◌, arith}
-use Rattle.kept_lock.specs.Locks.{name_of, known}
+use Rattle.kept_lock.specs.Locks.{name_of, knowledge}
 use Rattle.host_workers.proofs.Writing.{goes_further, rose_since, run_front, run_whole}
 use Rattle.host_workers.proofs.writer.write_on.Goals as goal
 
@@ -24,7 +24,7 @@ pub returns-in-Err-clause-ended : goal.returns-in-Err-clause-ended
 returns-in-Err-clause-ended g c =
     let h = c.in-Err.ensures.written in
     let origin = name_of c.args.post.now.lock.now in
-    let pass = known c.follow.new.pass in
+    let pass = knowledge c.follow.new.pass in
     λ first before. record {
       number = h.0 ∙ c.requires.post.writes;
       ended = h.1;
@@ -51,7 +51,7 @@ returns-in-Err-follow-clause-ended g c =
     let later = c.in-Err-follow.ensures.later in
     let h = c.in-Err-follow.ensures.written in
     let origin = name_of c.args.post.now.lock.now in
-    let pass = known c.follow-in-loop.new.pass in
+    let pass = knowledge c.follow-in-loop.new.pass in
     λ first before. record {
       number = h.0 ∙ c.requires.post.writes;
       ended = h.1;

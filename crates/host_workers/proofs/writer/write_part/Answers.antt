@@ -1,6 +1,6 @@
 use Rattle.std.proofs.Common.{◌∙◌, ◌+◌, Err, ap, arith, sym}
 use Rattle.wave_base.specs.declared.numbers.Ticket.{Ticket}
-use Rattle.kept_lock.specs.Locks.{name_of, known}
+use Rattle.kept_lock.specs.Locks.{name_of, knowledge}
 use Rattle.service_code.specs.declared.program.Program.{Program}
 use Rattle.wave_effects.specs.declared.plan.Plan.{Plan}
 use Rattle.host_workers.proofs.Rounding.{is_calm}
@@ -36,13 +36,13 @@ pub returns-in-Ok-clause-written : goal.returns-in-Ok-clause-written
 returns-in-Ok-clause-written g c =
     let shape = ap (λ (p : Program). p.shape) c.program.ensures.program ∙ ap (λ (p : Plan). p.program.shape) (sym c.requires.post.plan_is) in
     let from = ap (λ (t : Ticket). t.0 + c.args.written) (sym c.requires.post.from_is) in
-    part_written (name_of c.args.post.now.lock.now) (known c.args.pass.now) c.args.post.now.number c.args.written _ _ _ _ _ _ 0 0 c.requires.ready c.requires.next shape from c.len.ensures c.in-Ok.ensures.ok
+    part_written (name_of c.args.post.now.lock.now) (knowledge c.args.pass.now) c.args.post.now.number c.args.written _ _ _ _ _ _ 0 0 c.requires.ready c.requires.next shape from c.len.ensures c.in-Ok.ensures.ok
 
 pub returns-in-Err-WriteFault-clause-written : goal.returns-in-Err-WriteFault-clause-written
 returns-in-Err-WriteFault-clause-written g c =
     let shape = ap (λ (p : Program). p.shape) c.program.ensures.program ∙ ap (λ (p : Plan). p.program.shape) (sym c.requires.post.plan_is) in
     let from = ap (λ (t : Ticket). t.0 + c.args.written) (sym c.requires.post.from_is) in
-    sink_failed (name_of c.args.post.now.lock.now) (known c.halt.new.pass) c.args.post.now.number c.args.written _ _ _ _ (c.halt.ensures.on.number ∙ c.requires.ready.number) c.halt.ensures.halted c.halt.ensures.own
+    sink_failed (name_of c.args.post.now.lock.now) (knowledge c.halt.new.pass) c.args.post.now.number c.args.written _ _ _ _ (c.halt.ensures.on.number ∙ c.requires.ready.number) c.halt.ensures.halted c.halt.ensures.own
     (part_broke _ _ _ c.requires.next.shown _ _ shape from _ _ c.in-Err-WriteFault.ensures.err)
     (c.in-Err-WriteFault.ensures.fault (ap Err c.in-Err-WriteFault.field-0-is))
 
@@ -50,5 +50,5 @@ pub returns-in-Err-OutOfMemory-clause-written : goal.returns-in-Err-OutOfMemory-
 returns-in-Err-OutOfMemory-clause-written g c =
     let shape = ap (λ (p : Program). p.shape) c.program.ensures.program ∙ ap (λ (p : Plan). p.program.shape) (sym c.requires.post.plan_is) in
     let from = ap (λ (t : Ticket). t.0 + c.args.written) (sym c.requires.post.from_is) in
-    no_memory (name_of c.args.post.now.lock.now) (known c.give_up.new.pass) c.args.post.now.number c.args.written _ _ _ _ c.give_up.result c.give_up.ensures.memory (c.give_up.ensures.on.number ∙ c.requires.ready.number) c.give_up.ensures.ended
+    no_memory (name_of c.args.post.now.lock.now) (knowledge c.give_up.new.pass) c.args.post.now.number c.args.written _ _ _ _ c.give_up.result c.give_up.ensures.memory (c.give_up.ensures.on.number ∙ c.requires.ready.number) c.give_up.ensures.ended
     (part_broke _ _ _ c.requires.next.shown _ _ shape from _ _ c.in-Err-OutOfMemory.ensures.err)

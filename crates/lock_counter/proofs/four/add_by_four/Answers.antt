@@ -2,7 +2,7 @@ use Rattle.std.proofs.Common.{◌≡◌, ℕ, List, subst, rules}
 use Rattle.kept_lock.specs.declared.view.Known.{Known}
 use Rattle.kept_lock.specs.History.{entries_of}
 use Rattle.kept_lock.specs.Knowing.{Accounts, joined_pass}
-use Rattle.kept_lock.specs.Locks.{known}
+use Rattle.kept_lock.specs.Locks.{knowledge}
 use Rattle.kept_lock.proofs.Accounts.{joined_accounts}
 use Rattle.lock_counter.proofs.four.add_by_four.Goals as goal
 
@@ -23,7 +23,7 @@ three_joined owner one two three four a b c log first second third h =
 pub returns-clause-second : goal.returns-clause-second
 returns-clause-second g c =
     let done = c.run_four-one.result in
-    let made = three_joined (λ e. e.by) (known done.0.0.0) (known done.0.1.0) (known done.1.0.0) (known done.1.1.0) _ _ _ c.close-counter.result.log.items
+    let made = three_joined (λ e. e.by) (knowledge done.0.0.0) (knowledge done.0.1.0) (knowledge done.1.0.0) (knowledge done.1.1.0) _ _ _ c.close-counter.result.log.items
     c.join-pass.ensures.joined c.join-pass-2.ensures.joined c.join-pass-3.ensures.joined c.close-counter.ensures.accounts in
     let second = made.second in
     search rules
@@ -31,7 +31,7 @@ returns-clause-second g c =
 pub returns-clause-third : goal.returns-clause-third
 returns-clause-third g c =
     let done = c.run_four-one.result in
-    let made = three_joined (λ e. e.by) (known done.0.0.0) (known done.0.1.0) (known done.1.0.0) (known done.1.1.0) _ _ _ c.close-counter.result.log.items
+    let made = three_joined (λ e. e.by) (knowledge done.0.0.0) (knowledge done.0.1.0) (knowledge done.1.0.0) (knowledge done.1.1.0) _ _ _ c.close-counter.result.log.items
     c.join-pass.ensures.joined c.join-pass-2.ensures.joined c.join-pass-3.ensures.joined c.close-counter.ensures.accounts in
     let third = made.third in
     search rules
@@ -39,7 +39,7 @@ returns-clause-third g c =
 pub returns-clause-fourth : goal.returns-clause-fourth
 returns-clause-fourth g c =
     let done = c.run_four-one.result in
-    let made = three_joined (λ e. e.by) (known done.0.0.0) (known done.0.1.0) (known done.1.0.0) (known done.1.1.0) _ _ _ c.close-counter.result.log.items
+    let made = three_joined (λ e. e.by) (knowledge done.0.0.0) (knowledge done.0.1.0) (knowledge done.1.0.0) (knowledge done.1.1.0) _ _ _ c.close-counter.result.log.items
     c.join-pass.ensures.joined c.join-pass-2.ensures.joined c.join-pass-3.ensures.joined c.close-counter.ensures.accounts in
     let fourth = made.fourth in
     search rules

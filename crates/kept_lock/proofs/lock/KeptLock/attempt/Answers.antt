@@ -3,7 +3,7 @@ use Rattle.std.specs.Fn.{FnOnceReturnsAtMut}
 use Rattle.kept_lock.specs.declared.view.Known.{Known}
 use Rattle.kept_lock.specs.History.{Adds}
 use Rattle.kept_lock.specs.Knowing.{Agrees, Accounts, pass_inside, left_at}
-use Rattle.kept_lock.specs.Locks.{name_of, known}
+use Rattle.kept_lock.specs.Locks.{name_of, knowledge}
 use Rattle.kept_lock.specs.Guards.{pass_in}
 use Rattle.kept_lock.specs.Visits.{Meets}
 use Rattle.kept_lock.proofs.Unchanged.{at_value}
@@ -11,15 +11,15 @@ use denote.MutBor.{at_last}
 use Rattle.kept_lock.proofs.lock.KeptLock.attempt.Given as given
 use Rattle.kept_lock.proofs.lock.KeptLock.attempt.Goals as goal
 
-meets : (g : given.Over) (c : goal.After-guard-2-1 g) → Meets g.V.Kept.history g.V.Kept.owner g.V.Kept.stands (name_of c.args.self.now) (known c.args.pass.now) c.get_mut.result.now
+meets : (g : given.Over) (c : goal.After-guard-2-1 g) → Meets g.V.Kept.history g.V.Kept.owner g.V.Kept.stands (name_of c.args.self.now) (knowledge c.args.pass.now) c.get_mut.result.now
 meets g c = let e = c.enter-guard.ensures in let is = c.get_mut.ensures.value in let y = c.get_mut.result.now in record {
   stands_for_name = at_value (λ z. g.V.Kept.stands z (name_of c.args.self.now)) _ y is e.stands;
-  agrees = at_value (λ z. Agrees g.V.Kept.owner (known c.args.pass.now) (g.V.Kept.history z)) _ y is e.agrees;
-  accounts = at_value (λ z. Accounts g.V.Kept.owner (known c.args.pass.now) (g.V.Kept.history z)) _ y is e.accounts;
+  agrees = at_value (λ z. Agrees g.V.Kept.owner (knowledge c.args.pass.now) (g.V.Kept.history z)) _ y is e.agrees;
+  accounts = at_value (λ z. Accounts g.V.Kept.owner (knowledge c.args.pass.now) (g.V.Kept.history z)) _ y is e.accounts;
 }
 
-entered_there : (g : given.Over) (c : goal.After-guard-2-1 g) → known (pass_in c.enter-guard.result) ≡ pass_inside (known c.args.pass.now) (g.V.Kept.history c.get_mut.result.now)
-entered_there g c = at_value (λ z. known (pass_in c.enter-guard.result) ≡ pass_inside (known c.args.pass.now) (g.V.Kept.history z)) _ c.get_mut.result.now c.get_mut.ensures.value c.enter-guard.ensures.entered
+entered_there : (g : given.Over) (c : goal.After-guard-2-1 g) → knowledge (pass_in c.enter-guard.result) ≡ pass_inside (knowledge c.args.pass.now) (g.V.Kept.history c.get_mut.result.now)
+entered_there g c = at_value (λ z. knowledge (pass_in c.enter-guard.result) ≡ pass_inside (knowledge c.args.pass.now) (g.V.Kept.history z)) _ c.get_mut.result.now c.get_mut.ensures.value c.enter-guard.ensures.entered
 
 did : (g : given.Over) (c : goal.After-guard-2-1 g) → FnOnceReturnsAtMut g.F.FnOnce c.args.work c.get_mut.result.now c.work-result.result c.work-result.new.arg2
 did g c = record { shown = c.get_mut.result; shows = refl; left = at_last c.get_mut.result c.work-result.new.arg2; met = c.work-result.ensures; leaves = refl }
@@ -35,8 +35,8 @@ leave_as-requires-clause-adds g c = subst (λ (k : Known g.row.V-Entry.Denot). A
 
 pub returns-clause-done : goal.returns-clause-done
 returns-clause-done g c =
-    let e = c.enter-guard.ensures in let is = c.get_mut.ensures.value in let y = c.get_mut.result.now in let k = known c.args.pass.now in let z = c.work-result.new.arg2 in
-    let inside = at_value (λ t. known (pass_in c.enter-guard.result) ≡ pass_inside k (g.V.Kept.history t)) _ y is e.entered in (
+    let e = c.enter-guard.ensures in let is = c.get_mut.ensures.value in let y = c.get_mut.result.now in let k = knowledge c.args.pass.now in let z = c.work-result.new.arg2 in
+    let inside = at_value (λ t. knowledge (pass_in c.enter-guard.result) ≡ pass_inside k (g.V.Kept.history t)) _ y is e.entered in (
       y,
       z,
       record {
