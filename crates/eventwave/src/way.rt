@@ -1,4 +1,4 @@
-//! Which way a piece of a script with policies is run: on this thread, or by workers.
+//! Which way a piece of a script is run: on this thread, or by workers. A script without policies is one piece.
 
 ghost use Rattle.std.specs.Prelude.{◌≡◌, ◌≤◌, false, true, IfOk, IsErrOf, OnErr, OnOk};
 ghost use Rattle.std.specs.Io.KnownBytes.{Appends};
@@ -50,7 +50,7 @@ pub fn run_piece_alone<K: Sink>(
     }
 }
 
-/// The same by workers; but a light piece by its code on this thread, once a piece was run: a script without policies, which is one piece, is the workers'.
+/// The same by workers; but a light piece by its code on this thread.
 pub fn run_piece_together<R: Threads + Wait + Sync, K: Sink + Send, G: Gate + Sync>(
     team: &Team<R, G>,
     engine: Engine,
@@ -68,7 +68,7 @@ pub fn run_piece_together<R: Threads + Wait + Sync, K: Sink + Send, G: Gate + Sy
     ensures fault { IsErrOf result ListError.WriteFault → Rose (K.faults out.old) (K.faults out.new) }
     ensures later { K.faults out.old ≤ K.faults out.new }
 {
-    if has_begun(&stages) && is_light(&plan, team.gate.may_hold()) {
+    if is_light(&plan, team.gate.may_hold(), has_begun(&stages)) {
         code_piece(team.alloc, service, plan, stages, out)
     } else {
         share_piece(team, engine, plan, stages, out)

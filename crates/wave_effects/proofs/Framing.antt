@@ -1,5 +1,5 @@
 -- What stays as it is where a label puts another cell in the place of one, and another store in the place of one.
-use Rattle.std.proofs.Common.{◌≡◌, ◌≢◌, ◌∙◌, ◌⊎◌, inl, inr, ℕ, zero, suc, ◌+◌, ◌≤◌, true, false, List, ◌++◌, ◌∷◌, [], length, Option, Some, None, refl, sym, ap, subst, arith}
+use Rattle.std.proofs.Common.{◌≡◌, ◌≢◌, ◌∙◌, ◌⊎◌, inl, inr, ℕ, zero, suc, ◌+◌, ◌≤◌, true, false, List, ◌++◌, ◌∷◌, [], length, Option, Some, None, refl, sym, ap, subst, true≢false, arith}
 use Rattle.std.specs.Prelude.{map, option_map, slice_get, slice_set}
 use Rattle.std.specs.FinMap as table
 use Rattle.std.specs.FinSet as set
@@ -19,7 +19,7 @@ use Rattle.wave_states.specs.Steps.{column_joined, with_holders}
 use Rattle.wave_theory.proofs.Basics.{none_not, some_same}
 use Rattle.wave_effects.specs.declared.actor.Actor.{Actor}
 use Rattle.wave_effects.specs.Machines.{Kept}
-use Rattle.wave_effects.specs.Apart.{AsksAs, AnswersAs, Moves, new_cells}
+use Rattle.wave_effects.specs.Apart.{AsksAs, AnswersAs, HeadAsksTheSame, Moves, new_cells, on_head}
 use Rattle.wave_effects.proofs.Parts.{at_set}
 use Rattle.wave_effects.proofs.Reached.{has_it}
 use Rattle.wave_effects.proofs.StoreParts.{Writes, get_there, landed_here}
@@ -116,7 +116,7 @@ module _ (m m' : Kept) (l : Label) (more i : ℕ) (c c' : Cell Actor) (at : m.fi
   none_new x is = let within = slice_get_within m'.cells (length m.cells) x is in let long = as_long in absurd (omega (arith, within, long))
 
   -- and no store
-  module _ (stores : m'.stores ≡ m.stores) where
+  module _ (stores : m'.stores ≡ m.stores) (head : on_head l.act ≡ false → HeadAsksTheSame m m') where
     store_after : (h : ℕ) (st st' : Stores) → slice_get m.stores h ≡ Some st → slice_get m'.stores h ≡ Some st' → st' ≡ st
     store_after h st st' was is = some_same st' st (sym is ∙ ap (λ ss. slice_get ss h) stores ∙ was)
 
@@ -132,11 +132,12 @@ module _ (m m' : Kept) (l : Label) (more i : ℕ) (c c' : Cell Actor) (at : m.fi
       mails = mails_after;
       new = none_new;
       mark = λ st st' was is away away'. ap (λ (x : Stores). table.get x.gone (path_of l.act)) (store_after l.host st st' was is);
+      head = head;
     }
 
   -- and another store in the place of its host's, which answers the same about all other contexts
   module _ (s s' : Stores) (here : slice_get m.stores l.host ≡ Some s) (stores : m'.stores ≡ slice_set m.stores l.host s') (apart_from_it : (q : Path) → q ≢ path_of l.act → AnswersAs s s' q)
-      (mark_stays : has (path_of l.act) s ≡ false → has (path_of l.act) s' ≡ false → table.get s'.gone (path_of l.act) ≡ table.get s.gone (path_of l.act)) where
+      (mark_stays : has (path_of l.act) s ≡ false → has (path_of l.act) s' ≡ false → table.get s'.gone (path_of l.act) ≡ table.get s.gone (path_of l.act)) (head : on_head l.act ≡ false → HeadAsksTheSame m m') where
     stores_after : (h : ℕ) (st st' : Stores) → slice_get m.stores h ≡ Some st → slice_get m'.stores h ≡ Some st' → ((l.host ≡ h) × (st' ≡ s')) ⊎ (st' ≡ st)
     stores_after h st st' was is = after_set m.stores l.host s' h st st' was (sym (ap (λ ss. slice_get ss h) stores) ∙ is)
 
@@ -161,6 +162,7 @@ module _ (m m' : Kept) (l : Label) (more i : ℕ) (c c' : Cell Actor) (at : m.fi
       mails = mails_after;
       new = none_new;
       mark = mark_after;
+      head = head;
     }
       where
         mark_after : (st st' : Stores) → slice_get m.stores l.host ≡ Some st → slice_get m'.stores l.host ≡ Some st' → has (path_of l.act) st ≡ false → has (path_of l.act) st' ≡ false
@@ -177,8 +179,8 @@ module _ (m m' : Kept) (l : Label) (more i : ℕ) (c c' : Cell Actor) (at : m.fi
 -- ---- a label on the head
 
 -- an Admit puts one cell behind the others
-pub moved_admit : (m m' : Kept) (l : Label) (c : Cell Actor) → new_cells l.act ≡ 1 → m'.first ≡ m.first → m'.cells ≡ m.cells ++ c ∷ [] → m'.stores ≡ m.stores → length c.outbox.mails ≤ 1 → Moves m m' l 0
-moved_admit m m' l c grows first cells stores few = record {
+pub moved_admit : (m m' : Kept) (l : Label) (c : Cell Actor) → new_cells l.act ≡ 1 → on_head l.act ≡ true → m'.first ≡ m.first → m'.cells ≡ m.cells ++ c ∷ [] → m'.stores ≡ m.stores → length c.outbox.mails ≤ 1 → Moves m m' l 0
+moved_admit m m' l c grows here first cells stores few = record {
   others = record {
     first = first;
     cells = λ i x x' apart was is. asks_as x x' (cell_after i x x' was is);
@@ -189,6 +191,7 @@ moved_admit m m' l c grows first cells stores few = record {
   mails = λ i x x' was is. subst (λ (z : Cell Actor). length z.outbox.mails ≤ 0 + length x.outbox.mails) (sym (cell_after i x x' was is)) (omega arith);
   new = λ x is. subst (λ (z : Cell Actor). length z.outbox.mails ≤ 1) (some_same c x (sym (at_end m.cells) ∙ sym (ap (λ cs. slice_get cs (length m.cells)) cells) ∙ is)) few;
   mark = λ st st' was is away away'. ap (λ (x : Stores). table.get x.gone (path_of l.act)) (store_after l.host st st' was is);
+  head = λ off. absurd (true≢false (sym here ∙ off));
 }
   where
     at_end : (xs : List (Cell Actor)) → slice_get (xs ++ c ∷ []) (length xs) ≡ Some c
@@ -207,8 +210,8 @@ moved_admit m m' l c grows first cells stores few = record {
     store_after h st st' was is = some_same st' st (sym is ∙ ap (λ ss. slice_get ss h) stores ∙ was)
 
 -- a label that changes no cell and no store
-pub moved_none : (m m' : Kept) (l : Label) → new_cells l.act ≡ 0 → m'.first ≡ m.first → m'.cells ≡ m.cells → m'.stores ≡ m.stores → Moves m m' l 0
-moved_none m m' l stays first cells stores = record {
+pub moved_none : (m m' : Kept) (l : Label) → new_cells l.act ≡ 0 → on_head l.act ≡ true → m'.first ≡ m.first → m'.cells ≡ m.cells → m'.stores ≡ m.stores → Moves m m' l 0
+moved_none m m' l stays here first cells stores = record {
   others = record {
     first = first;
     cells = λ i x x' apart was is. asks_as x x' (cell_after i x x' was is);
@@ -219,6 +222,7 @@ moved_none m m' l stays first cells stores = record {
   mails = λ i x x' was is. subst (λ (z : Cell Actor). length z.outbox.mails ≤ 0 + length x.outbox.mails) (sym (cell_after i x x' was is)) (omega arith);
   new = λ x is. let within = slice_get_within m'.cells (length m.cells) x is in let long : length m'.cells ≡ length m.cells = ap length cells in absurd (omega (arith, within, long));
   mark = λ st st' was is away away'. ap (λ (x : Stores). table.get x.gone (path_of l.act)) (store_after l.host st st' was is);
+  head = λ off. absurd (true≢false (sym here ∙ off));
 }
   where
     cell_after : (i : ℕ) (x x' : Cell Actor) → slice_get m.cells i ≡ Some x → slice_get m'.cells i ≡ Some x' → x' ≡ x

@@ -19,6 +19,7 @@ pub mod Headings
 pub mod Leaves
 pub mod Ways
 pub mod Roomy
+pub mod Rows
 pub mod Halting
 pub mod Stopping
 pub mod Flat

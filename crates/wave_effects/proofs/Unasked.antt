@@ -109,6 +109,7 @@ module _ (m n o : Kept) (a : AsksTheSame m n) where
         let t = store_between l.host s was in
         let held = a.others.stores l.host (path_of l.act) s t.0 (λ f. f) was t.1 in
         b.mark t.0 s' t.1 is (has_too s t.0 (path_of l.act) held ∙ away) away' ∙ held.mark;
+    head = λ off. let x = b.head off in record { next = x.next ∙ a.next; ready = x.ready ∙ a.ready; settled = x.settled ∙ a.settled };
   }
 
 -- ---- one cell, or one store, that differs in rooms alone

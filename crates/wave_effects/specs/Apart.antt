@@ -1,5 +1,5 @@
 -- What a label leaves as it is, as a listing reads it: all but the cell of its ticket, and what one host has of its context.
-use Rattle.std.specs.Prelude.{◌≡◌, ◌≤◌, ◌+◌, ℕ, false, length, Some, option_map, slice_get}
+use Rattle.std.specs.Prelude.{◌≡◌, ◌≤◌, ◌+◌, ℕ, Bool, true, false, length, Some, option_map, slice_get}
 use Rattle.std.specs.FinMap as table
 use Rattle.wave_base.specs.declared.path.Path.{Path}
 use Rattle.head_tickets.specs.Heads.{next_ticket}
@@ -7,7 +7,7 @@ use Rattle.commit_order.specs.Commits.{ready_result}
 use Rattle.context_queue.specs.Entries.{entry_of}
 use Rattle.host_map.specs.Stores.{Stores, has}
 use Rattle.event_cells.specs.declared.cell.Cell.{Cell}
-use Rattle.wave_states.specs.Labels.{Act, Label, Admit, ticket_of, path_of}
+use Rattle.wave_states.specs.Labels.{Act, Label, Admit, Commit, Stop, ticket_of, path_of}
 use Rattle.wave_effects.specs.declared.actor.Actor.{Actor}
 use Rattle.wave_effects.specs.Machines.{Kept}
 
@@ -42,6 +42,19 @@ abbrev pub new_cells : Act → ℕ
 new_cells (Admit t) = 1
 new_cells _ = 0
 
+-- a label on the head, and a Stop, which may leave a result, change what the head asks for
+abbrev pub on_head : Act → Bool
+on_head (Admit t) = true
+on_head (Commit t) = true
+on_head (Stop t p) = true
+on_head _ = false
+
+-- the head asks for the same
+pub record HeadAsksTheSame (m m' : Kept) : Type 0 where
+  pub next : next_ticket m'.head ≡ next_ticket m.head
+  pub ready : ready_result m'.commits ≡ ready_result m.commits
+  pub settled : length m'.settled.results ≡ length m.settled.results
+
 -- A label changes the cell of its ticket, which has so many mails more at most, and what its host has of its context. The mark of
 -- that stays where the context is away before and after; where it is there an Enter is delivered, whatever the mark says.
 pub record Moves (m m' : Kept) (l : Label) (more : ℕ) : Type 0 where
@@ -51,3 +64,4 @@ pub record Moves (m m' : Kept) (l : Label) (more : ℕ) : Type 0 where
   pub new : (c' : Cell Actor) → slice_get m'.cells (length m.cells) ≡ Some c' → length c'.outbox.mails ≤ 1
   pub mark : (st st' : Stores) → slice_get m.stores l.host ≡ Some st → slice_get m'.stores l.host ≡ Some st' → has (path_of l.act) st ≡ false → has (path_of l.act) st' ≡ false
       → table.get st'.gone (path_of l.act) ≡ table.get st.gone (path_of l.act)
+  pub head : on_head l.act ≡ false → HeadAsksTheSame m m'

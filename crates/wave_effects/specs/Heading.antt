@@ -42,7 +42,7 @@ pub record RoomToAdmit (m : Engine) : Type 0 where
 
 -- there is room for one more committed ticket, which creates so many calls
 pub record RoomToCommit (m : Engine) (calls : ℕ) : Type 0 where
-  pub settled : vec_len m.settled < vec_capacity m.settled
+  pub settled : 1 ≤ m.settled.room
   pub head : calls ≤ m.head.room
 
 -- the first ticket of a run is the Start's; the head of a state that is reached is the fold's; its jobs are jobs, and all that have and get

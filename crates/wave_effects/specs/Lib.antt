@@ -4,6 +4,7 @@ pub mod Loops
 pub mod Plans
 pub mod Kinds
 pub mod Machines
+pub mod Settling
 pub mod Keeping
 pub mod inner
 pub mod Rooms

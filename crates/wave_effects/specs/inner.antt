@@ -5,3 +5,5 @@ pub mod Beginnings
 pub mod Endings
 pub mod Lines
 pub mod Owned
+pub mod Rows
+pub mod Rest

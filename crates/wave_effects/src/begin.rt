@@ -24,6 +24,7 @@ ghost use Rattle.wave_effects.specs.Plans.{plan_of};
 use crate::engine::Engine;
 use crate::kept::Out;
 use crate::plan::Plan;
+use crate::settlements::Settlements;
 use commit_order::Commits;
 use context_queue::Entry;
 use head_tickets::Head;
@@ -48,7 +49,7 @@ impl<'p> Engine<'p> {
             head: Head::new_at(alloc, script, start.next),
             commits: Commits::new(alloc, start.next),
             kinds: Vec::new(alloc),
-            settled: Vec::new(alloc),
+            settled: Settlements::new(alloc),
             cells: Vec::new(alloc),
             stores,
             hands: idle_hands(alloc, plan.workers)?,

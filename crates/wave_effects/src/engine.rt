@@ -1,8 +1,9 @@
 //! What a machine keeps, in parts that labels change.
 
 use crate::actor::Actor;
-use crate::kept::{Out, Settled};
+use crate::kept::Out;
 use crate::plan::Plan;
+use crate::settlements::Settlements;
 use commit_order::Commits;
 use event_cells::{Cell, JobKind};
 use head_tickets::Head;
@@ -23,7 +24,7 @@ pub struct Engine<'p> {
     /// What the admitted jobs are, in the order of their tickets.
     pub kinds: Vec<JobKind>,
     /// What is kept of the committed tickets, in their order.
-    pub settled: Vec<Settled>,
+    pub settled: Settlements,
     /// The admitted events, in the order of their tickets.
     pub cells: Vec<Cell<Actor>>,
     /// What each host has.

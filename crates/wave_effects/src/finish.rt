@@ -9,19 +9,47 @@ ghost use Rattle.plan_actors.specs.PlanActors.{plan_actors};
 ghost use Rattle.wave_effects.specs.Ending.{AllDone, AreFirstDone, is_done};
 ghost use Rattle.wave_effects.specs.Kinds.{name_in};
 ghost use Rattle.wave_effects.specs.Machines.{Stands, TheState};
+ghost use Rattle.wave_effects.specs.inner.Rest.{finished_with};
 
 use crate::actor::Actor;
 use crate::engine::Engine;
-use crate::kept::{Out, Settled};
+use crate::kept::Out;
 use crate::known::heads_are_known;
 use crate::laws::states_are_known;
 use crate::makes::name_in;
 use crate::places::{loads, places, shots};
+use crate::settlements::Settlements;
 use event_cells::{Cell, JobKind};
 use plan_actors::{PlanActors, finished_states_tell};
 use std::alloc::Global;
-use wave_base::{EventResult, Finished, OutOfMemory, Seq, Ticket};
+use wave_base::{Finished, OutOfMemory, Place, Seq, Shot, Ticket};
 use wave_theory::{complete, loads as loads_are};
+
+/// What a finished run gives beside its results.
+#[derive(Drop)]
+pub(crate) struct Rest {
+    names: Seq<Option<u16>>,
+    places: Seq<Place>,
+    shots: Seq<Shot>,
+    loads: Seq<u64>,
+}
+
+impl Rest {
+    // It all, with what is kept of the committed tickets.
+    fn with(self, settled: Settlements) -> Finished
+        ensures { result ≡ finished_with settled.items self }
+    {
+        let (results, made) = settled.into_parts();
+        Finished {
+            results,
+            made,
+            names: self.names,
+            places: self.places,
+            shots: self.shots,
+            loads: self.loads,
+        }
+    }
+}
 
 impl<'p> Engine<'p> {
     ghost use Rattle.wave_effects.specs.Keeping.{kept_of};
@@ -50,16 +78,19 @@ impl<'p> Engine<'p> {
         ensures told { IfOk result (λ f. (start : Start) (s : TheState) → Stands (kept_of self.entry) start s → f ≡ finished_of (code_ran self.entry.plan.now.program) self.entry.plan.now.program.shape start self.entry.plan.now.script) }
         ensures back { IfErr result (λ e. e.0 ≡ self.entry) }
     {
-        match self.finished_of(alloc) {
-            Ok(finished) => Ok(finished),
+        match self.rest_of(alloc) {
+            Ok(rest) => {
+                let Engine { settled, .. } = self;
+                Ok(rest.with(settled))
+            }
             Err(error) => Err((self, error)),
         }
     }
 
-    // Copies what a finished run gives.
-    fn finished_of(&self, alloc: Global) -> Result<Finished, OutOfMemory>
+    // What a finished run gives beside its results.
+    fn rest_of(&self, alloc: Global) -> Result<Rest, OutOfMemory>
         requires finished { (start : Start) × (s : TheState) × Stands (kept_of self.now) start s × runs.Finished (plan_actors self.now.plan.now.program) self.now.plan.now.workers s }
-        ensures { IfOk result (λ f. (start : Start) (s : TheState) → Stands (kept_of self.now) start s → f ≡ finished_of (code_ran self.now.plan.now.program) self.now.plan.now.program.shape start self.now.plan.now.script) }
+        ensures { IfOk result (λ rest. (start : Start) (s : TheState) → Stands (kept_of self.now) start s → finished_with (kept_of self.now).settled.results rest ≡ finished_of (code_ran self.now.plan.now.program) self.now.plan.now.program.shape start self.now.plan.now.script) }
     {
         states_are_known();
         heads_are_known();
@@ -69,9 +100,7 @@ impl<'p> Engine<'p> {
         let places = places(alloc, &self.stores)?;
         let shots = shots(alloc, &self.stores, &places)?;
         let loads = loads(alloc, &self.stores, &places, Ticket(self.first))?;
-        Ok(Finished {
-            results: results(alloc, &self.settled)?,
-            made: made_tickets(alloc, &self.settled)?,
+        Ok(Rest {
             names: names(alloc, &self.kinds)?,
             places: Seq::from_vec(places),
             shots: Seq::from_vec(shots),
@@ -111,28 +140,6 @@ fn all_over_past(cells: &[Cell<Actor>], done: usize) -> bool
     ensures { IsTrue result ↔ All (λ c. is_done c ≡ true) cells.now }
 {
     all_over(&cells[done..])
-}
-
-// Copies of the results.
-fn results(alloc: Global, settled: &[Settled]) -> Result<Seq<EventResult>, OutOfMemory>
-    ensures { IfOk result (λ results. results ≡ map (λ x. x.result) settled.now) }
-{
-    let mut results = Vec::new(alloc);
-    for x in settled {
-        results.push(x.result.copy(alloc)?)?;
-    }
-    Ok(Seq::from_vec(results))
-}
-
-// Copies of the tickets of what they created.
-fn made_tickets(alloc: Global, settled: &[Settled]) -> Result<Seq<Seq<Ticket>>, OutOfMemory>
-    ensures { IfOk result (λ made. made ≡ map (λ x. x.made) settled.now) }
-{
-    let mut made = Vec::new(alloc);
-    for x in settled {
-        made.push(x.made.copy(alloc)?)?;
-    }
-    Ok(Seq::from_vec(made))
 }
 
 // The numbers of the events.

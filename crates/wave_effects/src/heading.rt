@@ -69,7 +69,7 @@ impl<'p> Engine<'p> {
         states_are_known();
         let created = self.commits.ready().unwrap().created.copy(alloc)?;
         self.head.reserve(created.len())?;
-        self.settled.reserve(1)?;
+        self.settled.reserve()?;
         Ok(created)
     }
 

@@ -1,7 +1,7 @@
 //! What labels do. A machine keeps of a plan's run what an [`Engine`] has, which stands for a state of the theory, and each call of the
 //! engine is a label: it changes what is kept as the theory's step changes the state.
 //!
-//! - What is kept: `engine`, `kept`, `plan`, `actor`, `lease`; where a run begins: `begin`.
+//! - What is kept: `engine`, `kept`, `settlements`, `plan`, `actor`, `lease`; where a run begins: `begin`.
 //! - A label in two steps: what it needs is made (`prepared`, `rooms`, `makes`, `first`), and then it is taken without memory (`acts`).
 //! - The labels: on the head (`heading`), on mails and lines (`moves`, `joining`, `finds`), of a segment (`running`, `records`, `leaving`).
 //!   A segment runs apart from what is kept (`runs`); `loops` tells whether it may take any number of ticks.
@@ -40,6 +40,7 @@ mod refused;
 mod rooms;
 mod running;
 mod runs;
+mod settlements;
 mod shown;
 
 pub use actor::Actor;
@@ -58,3 +59,4 @@ pub use plan::Plan;
 pub use prepared::Prepared;
 pub use refused::Refused;
 pub use runs::run_lease;
+pub use settlements::Settlements;

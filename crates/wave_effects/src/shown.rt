@@ -13,6 +13,7 @@ use crate::engine::Engine;
 use crate::kept::Settled;
 use crate::known::heads_are_known;
 use crate::makes::name_in;
+use crate::settlements::Settlements;
 use event_cells::JobKind;
 use plan_actors::folds_end;
 use std::alloc::Global;
@@ -45,15 +46,15 @@ impl<'p> Engine<'p> {
 // Copies of so many of them, from one on.
 fn copies(
     alloc: Global,
-    settled: &[Settled],
+    settled: &Settlements,
     kinds: &[JobKind],
     from: usize,
     count: usize,
 ) -> Result<Seq<Shown>, OutOfMemory>
-    requires settled { from + count ≤ length settled.now }
+    requires settled { from + count ≤ length settled.now.items }
     requires kinds { from + count ≤ length kinds.now }
     ensures count { IfOk result (λ xs. length xs ≡ count) }
-    ensures each { IfOk result (λ xs. (i : ℕ) (x : Shown) → slice_get xs i ≡ Some x → IsKept settled.now kinds.now (from + i) x) }
+    ensures each { IfOk result (λ xs. (i : ℕ) (x : Shown) → slice_get xs i ≡ Some x → IsKept settled.now.items kinds.now (from + i) x) }
 {
     let mut shown = Vec::new(alloc);
     for i in 0..count {
@@ -66,17 +67,18 @@ fn copies(
 // A copy of one.
 fn one(
     alloc: Global,
-    settled: &[Settled],
+    settled: &Settlements,
     kinds: &[JobKind],
     i: usize,
 ) -> Result<Shown, OutOfMemory>
-    requires settled { i < length settled.now }
+    requires settled { i < length settled.now.items }
     requires kinds { i < length kinds.now }
-    ensures { IfOk result (λ x. IsKept settled.now kinds.now i x) }
+    ensures { IfOk result (λ x. IsKept settled.now.items kinds.now i x) }
 {
+    let Settled { result, made } = settled.copy(alloc, i)?;
     Ok(Shown {
         name: name_in(kinds[i]),
-        result: settled[i].result.copy(alloc)?,
-        made: settled[i].made.copy(alloc)?,
+        result,
+        made,
     })
 }

@@ -41,6 +41,7 @@ module _ (m m' : Kept) (a : AsksTheSame m m') where
     mails = λ i c c' e e'. let same = ap length (a.others.cells i c c' (λ x. x) e e').mails in omega (arith, same);
     new = λ c' e. let within = slice_get_within m'.cells (length m.cells) c' e in let many = a.as_many in absurd (omega (arith, within, many));
     mark = λ st st' e e' n n'. (a.others.stores (length m.stores) [] st st' (λ x. x) e e').mark;
+    head = λ off. record { next = a.next; ready = a.ready; settled = a.settled };
   }
 
   no_old : slice_get m.stores (length m.stores) ≡ None

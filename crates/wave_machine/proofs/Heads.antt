@@ -1,5 +1,5 @@
 -- What the head asks for is the first kind, and the last.
-use Rattle.std.proofs.Common.{◌≡◌, ◌∙◌, ◌+◌, ◌&&◌, ◌==◌, ℕ, true, false, List, [], ◌++◌, length, map, Option, Some, None, refl, sym, ap, arith, true≢false}
+use Rattle.std.proofs.Common.{◌≡◌, ◌∙◌, ◌+◌, ◌&&◌, ◌||◌, ◌==◌, ℕ, Bool, true, false, List, [], ◌++◌, length, map, Option, Some, None, refl, sym, ap, arith, true≢false}
 use Rattle.std.specs.Prelude.{option_map, slice_get}
 use Rattle.std.specs.List.{AllByRecursion}
 use Rattle.wave_base.specs.declared.numbers.Ticket.{Ticket}
@@ -11,9 +11,10 @@ use Rattle.wave_states.specs.Labels.{Label, Admit, Commit, ticket_of}
 use Rattle.wave_theory.specs.Listed.{kind_rank}
 use Rattle.wave_theory.proofs.Basics.{and_first, differ, number_is}
 use Rattle.wave_machine.specs.declared.ready.Ready.{Ready}
+use Rattle.wave_effects.specs.Apart.{Moves, on_head}
 use Rattle.wave_effects.specs.Machines.{Kept}
 use Rattle.wave_machine.specs.inner.Asking.{admit_labels, commit_labels, in_order, label_at, of_kind}
-use Rattle.wave_machine.specs.inner.Index.{Goes, High, IsHead, IsInner, Low, by_none, head_in, head_of, is_admit, act_number}
+use Rattle.wave_machine.specs.inner.Index.{Goes, High, IsHead, IsInner, Low, by_none, head_in, head_left, head_of, is_admit, act_number}
 use Rattle.wave_machine.proofs.Ordering.{all_filter, all_flat, all_map}
 use Rattle.wave_machine.proofs.Parting.{at_place, first_none, is_slot}
 use Rattle.wave_machine.proofs.Relisted.{IsFirst, IsLast}
@@ -64,6 +65,18 @@ head_is m = record {
 
 pub no_head : IsHead []
 no_head = record { admit = None; commit = None; are = refl }
+
+pub left_is : (whole : Bool) (m : Kept) → IsHead (head_left whole (head_in m))
+left_is true m = no_head
+left_is false m = head_is m
+
+-- where all was not listed anew and the label is none that changes it, what is left is what the head asks for
+pub still : (whole on : Bool) (m m' : Kept) (l : Label) → on ≡ on_head l.act → {more : ℕ} → Moves m m' l more → (whole || on) ≡ false → head_left whole (head_in m) ≡ head_in m'
+still true on m m' l is moves off = absurd (true≢false off)
+still false on m m' l is moves off =
+    let same = moves.head (sym is ∙ off) in
+    let ticket : m.first + length m.settled.results ≡ m'.first + length m'.settled.results = λ i. sym moves.others.first i + sym same.settled i in
+    λ i. label_at 0 0 (option_map (λ (t : Ticket). Admit t.0) (sym same.next i)) ++ label_at 0 0 (option_map (λ (r : EventResult). Commit (ticket i)) (sym same.ready i))
 
 -- where the Admit of the next ticket stands first, it is the one that is asked for
 pub admit_stands : (old : List Ready) (n : Option Ticket) (o : Option ℕ) (b : List Label) → AllByRecursion IsInner b → map by_none old ≡ in_order (label_at 0 0 (option_map (λ t. Admit t) o) ++ b) → is_admit n (slice_get old 0) ≡ true

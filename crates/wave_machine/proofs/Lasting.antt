@@ -30,6 +30,7 @@ use Rattle.wave_machine.specs.inner.Index.{HasRoom, RoomFor}
 use Rattle.wave_effects.specs.Made.{IsPart, IsPrepared}
 use Rattle.wave_effects.specs.Rooms.{PartToQueue, RoomInLine}
 use Rattle.wave_effects.specs.Running.{IsCopy, copy_of}
+use Rattle.wave_effects.specs.Settling.{Settling}
 use Rattle.wave_effects.specs.Spare.{IsAsLong, SameButRooms}
 use Rattle.wave_effects.specs.Taken.{calls_in, cell_in, copy_in, entry_in}
 
@@ -89,7 +90,7 @@ module _ (m m' : Engine) (same : SameButRooms (kept_of m) (kept_of m')) (long : 
   created_still calls h r is = h r ((λ j. table.get (sym same.results j) (sym same.committed j + 1)) ∙ is)
 
   commit_still : (calls : ℕ) → RoomToCommit m calls → RoomToCommit m' calls
-  commit_still calls h = record { settled = subst (λ v. vec_len v < vec_capacity v) (sym long.settled) h.settled; head = subst (λ (x : Heading). calls ≤ x.room) (sym same.head) h.head }
+  commit_still calls h = record { settled = subst (λ (v : Settling). 1 ≤ v.room) (sym long.settled) h.settled; head = subst (λ (x : Heading). calls ≤ x.room) (sym same.head) h.head }
 
   part_still : (host : Host) (a : Act) (x : Prepared) → IsPart m host a x → IsPart m' host a x
   part_still host (Admit t) x h = on_some (cell_in x) (λ c. IsNext (kept_of m) c × RoomToAdmit m) (λ c. IsNext (kept_of m') c × RoomToAdmit m') (λ c k. (next_still c k.0, admit_still k.1)) h

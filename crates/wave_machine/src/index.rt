@@ -7,6 +7,7 @@ ghost use Rattle.wave_labels.specs.Labels.{act_of};
 ghost use Rattle.wave_states.specs.Labels as theory;
 ghost use Rattle.wave_states.specs.Labels.{ticket_of};
 ghost use Rattle.wave_theory.specs.Listed.{kind_rank};
+ghost use Rattle.wave_effects.specs.Apart.{on_head};
 ghost use Rattle.wave_machine.specs.inner.Asking.{in_order, labels_in};
 ghost use Rattle.wave_machine.specs.inner.Index.{Cuts, CutsKind, Goes, IsInner, Parted, by_none, is_before, is_of, kinds_at, act_number, under};
 
@@ -59,6 +60,13 @@ pub(crate) fn ticket_of(act: &Act) -> Ticket
         Act::Queue(mail, _) | Act::Visit(mail, _) | Act::Free(mail, _) => mail.ticket,
         Act::Pass(mail, _, _) | Act::Land(mail, _) => mail.ticket,
     }
+}
+
+// Whether a label may change what the head asks for: one on the head, and a Stop, which may leave a result.
+pub(crate) fn is_on_head(act: &Act) -> bool
+    ensures { result ≡ on_head (act_of act.now) }
+{
+    matches!(act, Act::Admit(_) | Act::Commit(_) | Act::Stop(_, _))
 }
 
 // The number of a label's mail; 0 where it has none.

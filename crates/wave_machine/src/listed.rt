@@ -20,10 +20,10 @@ ghost use Rattle.wave_effects.specs.Made.{IsPart};
 ghost use Rattle.wave_effects.specs.Spare.{IsAsLong, SameButRooms};
 
 use crate::done::{count_done, done_stays};
-use crate::index::ticket_of;
+use crate::index::{is_on_head, ticket_of};
 use crate::looks::{asks_at, line_at, may_leave, path_of, sent_at, share_at};
 use crate::ready::Ready;
-use crate::renewing::{relist_after, relist_head};
+use crate::renewing::{relist_after, relist_head, renew_head};
 use host_map::{HostStore, place_of};
 use std::alloc::Global;
 use wave_base::{Finished, Host, OutOfMemory, Path, Pause, Start, Ticket};
@@ -263,8 +263,8 @@ impl<'p> Listed<'p> {
         heads_are_known();
         let share = share_at(&self.engine, ticket_of(&label.act));
         self.weight = self.weight - seen.share + share;
-        relist_after(&self.engine, label, seen, self.done, &mut self.index);
-        relist_head(&self.engine, &mut self.index);
+        let whole = relist_after(&self.engine, label, seen, self.done, &mut self.index);
+        renew_head(&self.engine, whole || is_on_head(&label.act), &mut self.index);
         self.done = count_done(&self.engine, self.done);
     }
 }

@@ -15,7 +15,7 @@ ghost use Rattle.wave_machine.specs.inner.Asking.{admit_labels, in_order, label_
 ghost use Rattle.wave_effects.specs.Sized.{IsListable, IsNumbered};
 ghost use Rattle.wave_machine.specs.inner.Done.{AreDone};
 ghost use Rattle.wave_machine.specs.inner.Others.{but};
-ghost use Rattle.wave_machine.specs.inner.Index.{IsHead, IsInner, Lists, ListsNew, Relists, RelistsBoth, RelistsNear, RelistsNext, RelistsOwn, RelistsStatus, Taken, asked_as, asked_at, asked_of, asks_at, by_none, by_part, head_in, is_admit, next_at, act_number, share_of, weight_of};
+ghost use Rattle.wave_machine.specs.inner.Index.{IsHead, IsInner, Lists, ListsNew, Relists, RelistsBoth, RelistsNear, RelistsNext, RelistsOwn, RelistsStatus, Taken, asked_as, asked_at, asked_of, asks_at, by_none, by_part, head_in, head_left, is_admit, next_at, act_number, share_of, weight_of};
 ghost use Rattle.wave_effects.specs.Keeping.{kept_of};
 
 use crate::asking::{admit_label, commit_label, mail_label, status_label};
@@ -199,27 +199,29 @@ fn list_new(engine: &Engine, ticket: Ticket, sent: u32, index: &mut Vec<Ready>)
 }
 
 // Lists anew what a label that was taken has changed: where its context came or went, what all tickets ask for. The first tickets,
-// so many, are done.
+// so many, are done. Answers whether all was listed anew, so that nothing of the head's is left in the list.
 pub(crate) fn relist_after(
     engine: &Engine,
     label: &Label,
     seen: Seen,
     done: usize,
     index: &mut Vec<Ready>,
-)
+) -> bool
     requires listable { IsListable (kept_of engine.now) }
-    requires taken { (m : Kept) × (more : ℕ) × (h : List theory.Label) × Taken m (kept_of engine.now) (label_of label.now) seen more × IsHead h × (map by_none index.old.items ≡ in_order (h ++ by_part m (asked_at m))) }
     requires done { AreDone (kept_of engine.now) done }
     requires room { vec_len index.old + (4 + weight_of engine.now.cells.items) ≤ vec_capacity index.old }
-    ensures all { (h : List theory.Label) × IsHead h × (map by_none index.new.items ≡ in_order (h ++ by_part (kept_of engine.now) (asked_at (kept_of engine.now)))) }
+    ensures all { (m : Kept) (more : ℕ) (h : List theory.Label) → Taken m (kept_of engine.now) (label_of label.now) seen more → IsHead h → map by_none index.old.items ≡ in_order (h ++ by_part m (asked_at m))
+        → map by_none index.new.items ≡ in_order (head_left result h ++ by_part (kept_of engine.now) (asked_at (kept_of engine.now))) }
     ensures len { vec_len index.new ≤ vec_len index.old + (4 + weight_of engine.now.cells.items) }
     ensures capacity { vec_capacity index.new ≡ vec_capacity index.old }
 {
     let (here, next) = line_at(engine, label.host, &path_of(&label.act));
     if is_same(here, seen.here) {
         relist_near(engine, label, seen, next, index);
+        false
     } else {
         relist_all(engine, done, index);
+        true
     }
 }
 
@@ -251,6 +253,18 @@ fn list_mails(engine: &Engine, ticket: Ticket, mails: &[(u32, Envelope)], index:
         let number = mail.0;
         let id = MailId { ticket, number };
         put_some(index, mail_label(engine, Worker(0), id, &mail.1));
+    }
+}
+
+// Lists anew what the head asks for, where that may have changed.
+pub(crate) fn renew_head(engine: &Engine, changed: bool, index: &mut Vec<Ready>)
+    requires commits { is_some (ready_result engine.now.commits) ≡ true → engine.now.first + length engine.now.settled.items < 2 ^ 32 }
+    requires room { vec_len index.old + 2 ≤ vec_capacity index.old }
+    ensures parts { (h b : List theory.Label) → IsHead h → (changed ≡ false → h ≡ head_in (kept_of engine.now)) → AllByRecursion IsInner b → map by_none index.old.items ≡ in_order (h ++ b) → map by_none index.new.items ≡ in_order (head_in (kept_of engine.now) ++ b) }
+    ensures capacity { vec_capacity index.new ≡ vec_capacity index.old }
+{
+    if changed {
+        relist_head(engine, index);
     }
 }
 

@@ -34,9 +34,13 @@ is_single batch = nat_le (count_by is_no_move batch) 1
 abbrev pub are_single : List (List Line) → Bool
 are_single batches = list_all is_single batches
 
--- No gate may hold a worker; and no segment takes long, so that no other worker is called, or no batch has two events and none creates another.
-abbrev pub is_light : Bool → Plan → Bool
-is_light may_hold plan = not may_hold && (not (has_loops plan.program) || (are_single plan.script.batches && not (has_spawns plan.program)))
+-- no batch has two events, and none creates another
+abbrev pub never_has_two : Plan → Bool
+never_has_two plan = are_single plan.script.batches && not (has_spawns plan.program)
+
+-- No gate may hold a worker; and no segment takes long, so that no other worker is called, or the piece stands behind another and never has two events.
+abbrev pub is_light : Bool → Bool → Plan → Bool
+is_light may_hold begun plan = not may_hold && (not (has_loops plan.program) || (begun && never_has_two plan))
 
 -- some piece gave a ticket before
 abbrev pub has_begun : Staged → Bool

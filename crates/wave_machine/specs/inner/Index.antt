@@ -255,6 +255,11 @@ is_admit (Some t) r = is_of 0 t.0 0 r
 abbrev pub head_in : Kept → List Label
 head_in m = admit_labels 0 m.head ++ commit_labels 0 (m.first + length m.settled.results) m.commits
 
+-- what of it is left in the list once a label was listed; nothing where all was listed anew
+abbrev pub head_left : Bool → List Label → List Label
+head_left true h = []
+head_left false h = h
+
 -- all that is asked for, in order
 abbrev pub IsIndex : Kept → List Ready → Type 0
 IsIndex m index = map by_none index ≡ in_order (head_in m ++ by_part m (asked_at m))

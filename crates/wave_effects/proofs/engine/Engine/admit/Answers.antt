@@ -33,4 +33,4 @@ returns-clause-moves c = λ w host t.
     let m = kept_of c.args.self.now in
     let line = line_of c.admit-job.result.1 in
     let made = c.requires.cell line (ap (λ ws. slice_get ws 0) c.admit-job.ensures.known.0) in
-    moved_admit m _ (record { worker = w; host = host; act = Admit t }) c.args.cell refl refl c.push_reserved-2.ensures.items refl (omega (arith, made.one_mail))
+    moved_admit m _ (record { worker = w; host = host; act = Admit t }) c.args.cell refl refl refl c.push_reserved-2.ensures.items refl (omega (arith, made.one_mail))

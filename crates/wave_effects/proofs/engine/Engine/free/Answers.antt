@@ -66,4 +66,4 @@ returns-clause-moves c = λ w.
     let next = with_entry store c.args.path c.free.new.self in
     let writes : Writes store next c.args.path c.free.new.self = record { store = refl; gone = refl } in
     moved_both m (with_store (with_cell m i c.take_mail.new.self) c.args.host.0 next) (record { worker = w; host = c.args.host.0; act = Free t c.args.mail.number c.args.path }) 0 i cell c.take_mail.new.self place refl there refl refl
-    (omega (arith, c.take_mail.ensures.fewer_mails)) store next here refl (written_apart store next c.args.path c.free.new.self writes) (λ away away'. refl)
+    (omega (arith, c.take_mail.ensures.fewer_mails)) store next here refl (written_apart store next c.args.path c.free.new.self writes) (λ away away'. refl) (λ off. record { next = refl; ready = refl; settled = refl })

@@ -77,4 +77,4 @@ returns-clause-moves c = λ w.
     let writes : Writes store next c.args.path c.grant.new.self = record { store = refl; gone = refl } in
     let same = ap (λ (o : Sending). length o.mails) c.let_in.ensures.outbox in
     moved_both m (with_store (with_cell m i c.let_in.new.self) c.args.host.0 next) (record { worker = w; host = c.args.host.0; act = Grant t c.args.path }) 0 i cell c.let_in.new.self place refl there refl refl
-    (omega (arith, same)) store next here refl (written_apart store next c.args.path c.grant.new.self writes) (λ away away'. refl)
+    (omega (arith, same)) store next here refl (written_apart store next c.args.path c.grant.new.self writes) (λ away away'. refl) (λ off. record { next = refl; ready = refl; settled = refl })

@@ -67,4 +67,4 @@ returns-clause-moves c = λ w.
     let here : slice_get m.stores c.args.host.0 ≡ Some store = slice_get_read m.stores _ c.args.host.0 store refl at.host_in c.index_mut-store.ensures.value in
     moved_both m (with_store (with_cell m i c.take_mail.new.self) c.args.host.0 c.land.new.store) (record { worker = w; host = c.args.host.0; act = Land t c.args.mail.number c.args.path }) 0 i cell c.take_mail.new.self place refl there refl refl
     (omega (arith, c.take_mail.ensures.fewer_mails)) store c.land.new.store here refl (λ q n. same_at store c.land.new.store q (c.land.ensures.store q n) (c.land.ensures.gone q n))
-    (λ away away'. absurd (true≢false (sym (has_landed store c.land.new.store c.args.path c.entry_in-entry.result c.land.ensures.here) ∙ away')))
+    (λ away away'. absurd (true≢false (sym (has_landed store c.land.new.store c.args.path c.entry_in-entry.result c.land.ensures.here) ∙ away'))) (λ off. record { next = refl; ready = refl; settled = refl })

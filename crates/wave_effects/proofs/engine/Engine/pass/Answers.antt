@@ -83,4 +83,4 @@ returns-clause-moves c = λ w.
     let cell = c.index_mut-cell.result.now in
     let there : slice_get m.cells i ≡ Some cell = slice_get_read m.cells _ i cell refl within c.index_mut-cell.ensures.value in
     moved_cell m (with_cell m i c.redirect.new.self) (record { worker = w; host = c.args.host.0; act = Pass t k c.args.path c.args.to.0 }) 0 i cell c.redirect.new.self place refl there refl refl
-    (omega (arith, c.redirect.ensures.as_many_mails)) refl
+    (omega (arith, c.redirect.ensures.as_many_mails)) refl (λ off. record { next = refl; ready = refl; settled = refl })

@@ -87,4 +87,4 @@ returns-clause-moves c = λ w.
     let writes : Writes store next p lines.entry = record { store = lines.store; gone = lines.gone } in
     let same = ap (λ (o : Sending). length o.mails) c.set_status.ensures.outbox in
     moved_both m (with_store (with_cell m i c.set_status.new.self) c.args.host.0 next) (record { worker = w; host = c.args.host.0; act = Queue t k p }) 0 i cell c.set_status.new.self place refl there refl refl
-    (omega (arith, same, c.take_mail.ensures.fewer_mails)) store next here refl (written_apart store next p lines.entry writes) (λ away away'. ap (λ g. table.get g p) lines.gone)
+    (omega (arith, same, c.take_mail.ensures.fewer_mails)) store next here refl (written_apart store next p lines.entry writes) (λ away away'. ap (λ g. table.get g p) lines.gone) (λ off. record { next = refl; ready = refl; settled = refl })

@@ -115,4 +115,4 @@ returns-clause-moves c =
     let writes : Writes store next c.args.path c.take_record-body.new.entry = record { store = refl; gone = refl } in
     let same = ap (λ (o : Sending). length o.mails) c.start.ensures.outbox in
     moved_both m _ (record { worker = c.args.worker.0; host = c.args.host.0; act = Start t c.args.path }) 0 i cell c.start.new.self place refl there refl refl
-    (omega (arith, same)) store next here refl (written_apart store next c.args.path c.take_record-body.new.entry writes) (λ away away'. refl)
+    (omega (arith, same)) store next here refl (written_apart store next c.args.path c.take_record-body.new.entry writes) (λ away away'. refl) (λ off. record { next = refl; ready = refl; settled = refl })

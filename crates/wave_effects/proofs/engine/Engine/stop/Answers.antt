@@ -208,4 +208,5 @@ returns-clause-moves c = λ cell was.
     moves_after m m1 _ (same_asks m m1 same) (stop_of lease h) (1 + length cell.held.holds)
     (moved_both m1 _ (stop_of lease h) (1 + length cell.held.holds) i x c.leave-result.new.cell at_place refl there refl refl few st left here refl
     (λ q n. same_at st left q (c.leave-result.ensures.store q (λ e. n (e ∙ path))) (c.leave-result.ensures.gone q (λ e. n (e ∙ path))))
-    (λ away away'. absurd (true≢false (sym (still_has m m1 same lease.path h place.0 st place.1 place.2 here) ∙ away))))
+    (λ away away'. absurd (true≢false (sym (still_has m m1 same lease.path h place.0 st place.1 place.2 here) ∙ away)))
+    (λ off. absurd (true≢false off)))

@@ -48,4 +48,4 @@ returns-clause-moves c = λ w host.
     let there : slice_get m.cells i ≡ Some cell = slice_get_read m.cells _ i cell refl within c.index_mut-cell.ensures.value in
     let same = ap (λ (o : Sending). length o.mails) c.set_status.ensures.outbox in
     let few : length c.set_status.new.self.outbox.mails ≤ 0 + length cell.outbox.mails = omega (arith, same, c.take_mail.ensures.fewer_mails) in
-    moved_cell m (with_cell m i c.set_status.new.self) (record { worker = w; host = host; act = Visit t c.args.mail.number c.args.path }) 0 i cell c.set_status.new.self place refl there refl refl few refl
+    moved_cell m (with_cell m i c.set_status.new.self) (record { worker = w; host = host; act = Visit t c.args.mail.number c.args.path }) 0 i cell c.set_status.new.self place refl there refl refl few refl (λ off. record { next = refl; ready = refl; settled = refl })

@@ -1,4 +1,4 @@
-use Rattle.std.proofs.Common.{◌∙◌, ap, map, sym, subst}
+use Rattle.std.proofs.Common.{◌∙◌, ap, map, refl, sym, subst}
 use Rattle.std.specs.List.{list_any}
 use Rattle.std.specs.List.Sorted.{IsStrictlySortedBy}
 use Rattle.std.specs.Prelude.{slice_get, All}
@@ -8,12 +8,13 @@ use Rattle.wave_base.specs.declared.finished.Finished.{Finished as Told}
 use Rattle.wave_base.specs.Paths.{path_cmp, path_eq}
 use Rattle.wave_states.specs.Runs.{Finished}
 use Rattle.wave_effects.specs.Kinds.{name_in}
-use Rattle.wave_effects.specs.declared.kept.Settled.{Settled}
+use Rattle.wave_effects.specs.declared.finish.Rest.{Rest}
+use Rattle.wave_effects.specs.inner.Rest.{finished_with}
 use Rattle.wave_effects.specs.inner.Endings.{AreHome, AreServed, IsLoadOf, IsPlace, IsShotOf}
 use Rattle.wave_effects.specs.Keeping.{kept_of}
 use Rattle.wave_effects.proofs.Ending.{so_done, so_finished}
 use Rattle.wave_effects.proofs.Telling.{completes_by, home, loads_by, paired_as, served, tells}
-use Rattle.wave_effects.proofs.engine.Engine.finished_of.Goals as goal
+use Rattle.wave_effects.proofs.engine.Engine.rest_of.Goals as goal
 
 pub shots-requires-clause-there : goal.shots-requires-clause-there
 shots-requires-clause-there c = subst (All (IsPlace c.deref-2.result.now)) (sym c.deref-3.ensures.value) (subst (λ xs. All (IsPlace xs) c.in_ok-places.places.items) (c.deref.ensures.value ∙ sym c.deref-2.ensures.value) c.in_ok-places.ensures.there)
@@ -37,11 +38,12 @@ returns c = λ start s stands.
     let on = c.requires.finished in
     let completes = completes_by c.complete.ensures in
     let finished : Finished (plan_actors m.plan.program) m.plan.workers s = so_finished c.states_are_known.ensures c.heads_are_known.ensures m start s stands (so_done c.states_are_known.ensures c.heads_are_known.ensures m on.0 on.1 on.2 completes on.3) in
-    let f : Told = record { results = c.in_ok-results.field-0; made = c.in_ok-made_tickets.field-0; names = c.in_ok-names.field-0; places = c.from_vec.result; shots = c.from_vec-2.result; loads = c.from_vec-3.result } in
+    let rest : Rest = record { names = c.in_ok-names.field-0; places = c.from_vec.result; shots = c.from_vec-2.result; loads = c.from_vec-3.result } in
+    let f : Told = finished_with m.settled.results rest in
     let there = subst (All (IsPlace m.stores)) (sym c.from_vec.ensures) (subst (λ xs. All (IsPlace xs) c.in_ok-places.places.items) c.deref.ensures.value c.in_ok-places.ensures.there) in
     (c.finished_states_tell.ensures m.plan start stands.fits stands.begins stands.labels s stands.reached finished f).0
     (tells c.states_are_known.ensures c.heads_are_known.ensures completes (loads_by c.loads.ensures) m start s stands finished f
-    (c.in_ok-results.ensures ∙ ap (map (λ (x : Settled). x.result)) c.deref-6.ensures.value) (c.in_ok-made_tickets.ensures ∙ ap (map (λ (x : Settled). x.made)) c.deref-7.ensures.value) (c.in_ok-names.ensures ∙ ap (map name_in) c.deref-8.ensures.value)
+    refl refl (c.in_ok-names.ensures ∙ ap (map name_in) c.deref-6.ensures.value)
     (subst (λ xs. IsStrictlySortedBy path_cmp (map path_of xs)) (sym c.from_vec.ensures) c.in_ok-places.ensures.ordered) there
     (λ host x p at e. ap (λ xs. list_any (path_eq p) (map path_of xs)) c.from_vec.ensures ∙ c.in_ok-places.ensures.all host x p (ap (λ xs. slice_get xs host) c.deref.ensures.value ∙ at) e)
     (paired_as IsShotOf c.deref-2.result.now m.stores c.deref-3.result.now c.from_vec.result c.in_ok-shots.shots.items c.from_vec-2.result c.deref-2.ensures.value (c.deref-3.ensures.value ∙ sym c.from_vec.ensures) (sym c.from_vec-2.ensures) c.in_ok-shots.ensures)
