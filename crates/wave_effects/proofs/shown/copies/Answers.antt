@@ -11,6 +11,6 @@ loop-i-preserved c = record {
   each = λ k y e. by_place k y (at_push c.loop-i.shown.items c.in_ok-x.x k y (ap (λ xs. slice_get xs k) (sym c.in_ok-push.ensures.items) ∙ e));
 }
   where
-    by_place : (k : ℕ) (y : Shown) → (slice_get c.loop-i.shown.items k ≡ Some y) ⊎ ((k ≡ length c.loop-i.shown.items) × (y ≡ c.in_ok-x.x)) → IsKept c.args.settled.now c.args.kinds.now (c.args.from + k) y
+    by_place : (k : ℕ) (y : Shown) → (slice_get c.loop-i.shown.items k ≡ Some y) ⊎ ((k ≡ length c.loop-i.shown.items) × (y ≡ c.in_ok-x.x)) → IsKept c.args.settled.now.items c.args.kinds.now (c.args.from + k) y
     by_place k y (inl old) = c.loop-i.invariant.each k y old
-    by_place k y (inr new) = subst (IsKept c.args.settled.now c.args.kinds.now (c.args.from + k)) (sym new.1) (subst (λ n. IsKept c.args.settled.now c.args.kinds.now (c.args.from + n) c.in_ok-x.x) (sym (new.0 ∙ c.loop-i.invariant.count)) c.in_ok-x.ensures)
+    by_place k y (inr new) = subst (IsKept c.args.settled.now.items c.args.kinds.now (c.args.from + k)) (sym new.1) (subst (λ n. IsKept c.args.settled.now.items c.args.kinds.now (c.args.from + n) c.in_ok-x.x) (sym (new.0 ∙ c.loop-i.invariant.count)) c.in_ok-x.ensures)

@@ -7,5 +7,5 @@ use Rattle.wave_effects.proofs.shown.copies.Given as goal
 abbrev pub invariant-loop-i : goal.invariant-loop-i
 invariant-loop-i l = record {
   count : length l.shown.items ≡ l.i;
-  each : (k : ℕ) (x : Shown) → slice_get l.shown.items k ≡ Some x → IsKept l.settled l.kinds (l.from + k) x;
+  each : (k : ℕ) (x : Shown) → slice_get l.shown.items k ≡ Some x → IsKept l.settled.items l.kinds (l.from + k) x;
 }

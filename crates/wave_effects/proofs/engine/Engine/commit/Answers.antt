@@ -71,7 +71,7 @@ returns-clause-takes c = λ w host t.
       admitted = c.begin_batch.ensures.counts.0 ∙ c.add_created-made.ensures.counts.0;
       done = c.begin_batch.ensures.counts.1 ∙ c.add_created-made.ensures.counts.1;
     } in
-    commit_pushed c.states_are_known.ensures m w host t (record { result = c.unwrap-result.result.result; made = c.add_created-made.result }) (requests c.args.created) c.begin_batch.new.head c.commit_next.new.self c.push_reserved.new.self.items r created takes does result c.add_created-made.ensures.tickets c.push_reserved.ensures.items
+    commit_pushed c.states_are_known.ensures m w host t (record { result = c.unwrap-result.result.result; made = c.add_created-made.result }) (requests c.args.created) c.begin_batch.new.head c.commit_next.new.self c.push_reserved.new.self.items r created takes does result c.add_created-made.ensures.tickets c.push_reserved.ensures
 
 pub returns-clause-moves : goal.returns-clause-moves
 returns-clause-moves c = λ w host t. moved_none (kept_of c.args.self.now) _ (record { worker = w; host = host; act = Commit t }) refl refl refl refl refl

@@ -15,7 +15,7 @@ copies-requires-clause-kinds c =
     let m = kept_of c.args.self.now in
     let on = c.requires.stands in
     let many : length m.settled.results ≤ length m.settled.kinds = kinds_many c.heads_are_known.ensures m on.0 on.1 on.2 in
-    omega (arith, many, c.requires.from, c.min-count.ensures, c.len.ensures, ap length c.deref-2.ensures.value)
+    omega (arith, many, c.requires.from, c.min-count.ensures, c.len.ensures, ap length c.deref.ensures.value)
 
 pub returns-clause-lines : goal.returns-clause-lines
 returns-clause-lines c = λ start s stands i x e.
@@ -27,5 +27,5 @@ returns-clause-lines c = λ start s stands i x e.
     over_stays plan start s.head.done n₀ over ∙ c.folds_end.ensures.whole plan start n₀ stands.fits stands.begins over in
     let later : s.head.done ≤ s.head.done + n₀ = omega arith in
     let kept : IsKept m.settled.results m.settled.kinds (c.args.from + i) x =
-    subst (λ xs. IsKept xs m.settled.kinds (c.args.from + i) x) c.deref.ensures.value (subst (λ ns. IsKept c.deref.result.now ns (c.args.from + i) x) c.deref-2.ensures.value (c.in_ok-shown.ensures.each i x e)) in
+    subst (λ ns. IsKept m.settled.results ns (c.args.from + i) x) c.deref.ensures.value (c.in_ok-shown.ensures.each i x e) in
     line_is m start s stands (c.heads_are_known.ensures plan start stands.labels s stands.fits stands.begins stands.reached) (c.machines_follow_the_fold.ensures.results m start s stands) (c.machines_follow_the_fold.ensures.tickets m start s stands) (s.head.done + n₀) later whole (c.args.from + i) x kept
