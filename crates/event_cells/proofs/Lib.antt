@@ -1,3 +1,4 @@
 pub mod Sorted
 mod Boxes
+mod Lives
 pub mod Desks

@@ -99,4 +99,3 @@ module _ {A : Type 0} where
     pub sent : d.outbox.sent ≡ c.outbox.sent
     pub mails : d.outbox.mails ≡ c.outbox.mails
     pub status : d.status ≡ c.status
-    pub kind : d.kind ≡ c.kind

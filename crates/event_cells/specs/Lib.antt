@@ -1,3 +1,4 @@
 pub mod Keeps
+pub mod Cards
 pub mod Cells
 pub mod inner

@@ -1,3 +1,4 @@
 pub mod Places
 pub mod Boxes
 pub mod Releases
+pub mod Lives

@@ -2,8 +2,10 @@
 
 ghost use Rattle.std.specs.Prelude.{◌≡◌, ◌≤◌, ◌<◌, ◌+◌, ◌^◌, ◌&&◌, [], length, List, map, Some, None, IsSome, IfOk, OnOk, false, option_copied, option_map};
 ghost use Rattle.std.specs.BTreeMap.{insert_entry};
+ghost use Rattle.std.specs.List.Sorted.{IsStrictlySortedBy};
+ghost use Rattle.std.specs.Map.{keys_of};
+ghost use Rattle.std.specs.Ordering.{nat_cmp};
 ghost use Rattle.event_cells.specs.Keeps.{mail_in, is_empty};
-ghost use Rattle.event_cells.specs.inner.Releases.{keeps, releases, sent_on};
 ghost use Rattle.wave_base.specs.Paths.{is_above, path_cmp};
 ghost use Rattle.wave_base.specs.declared.value.Value.{Value};
 ghost use Rattle.wave_states.specs.States as theory;
@@ -12,10 +14,12 @@ ghost use Rattle.wave_states.specs.Desks.{Desk, send, give_up, kept_of, not_at};
 ghost use Rattle.wave_states.specs.Steps.{after_end};
 
 use crate::held::{Held, Hold};
+use crate::live::{Live, release};
 use crate::outbox::{Envelope, Outbox};
 use crate::status::Status;
 use migration_core::Letter;
 use std::alloc::Global;
+use std::marker::Model;
 use wave_base::{Host, OutOfMemory, Path, Ticket};
 
 /// What kind of job a ticket stands for.
@@ -29,36 +33,44 @@ pub enum JobKind {
     Snapshot,
 }
 
-/// What the machine keeps of one admitted ticket: its event with its mails under way.
+/// What the machine keeps of one admitted ticket: its event with its mails under way. Once it is done, so that it has ended and no mail
+/// of it is under way, that is no more than how many mails it sent.
 #[derive(Drop)]
 pub struct Cell<A> {
-    /// The code that is still to run, which is away while a worker has it, and is dropped once the event has ended.
-    pub actor: Option<A>,
-    /// The contexts that it holds.
-    pub held: Held,
-    /// The mails that it sent.
-    pub outbox: Outbox,
-    /// How far it has come.
-    pub status: Status,
-    /// What its job is.
-    pub kind: JobKind,
+    life: Life<A>,
+}
+
+// A machine keeps a cell for each ticket, for good, so what is large lies in a box, which is dropped once all is done.
+#[derive(Drop)]
+enum Life<A> {
+    // An event that is not done.
+    Live(Box<Live<A>>),
+    // How many mails it sent.
+    Done(u32),
+}
+
+const _: () = prove!(size_of::<Cell<u64>>() == 16);
+
+impl<A> Model for Cell<A> {
+    ghost use Rattle.event_cells.specs.Cards.{Card, card_code};
+
+    ghost Value = { Card A };
+
+    ghost coded = { card_code A.code };
+
+    ghost use Rattle.event_cells.specs.inner.Lives.{card_of};
+
+    ghost view = { λ c. card_of c.life };
 }
 
 impl<A: Drop> Cell<A> {
     ghost use Rattle.event_cells.specs.Cells.{StandsFor, SameButRooms, status_of, is_over, hold_of, with_actor, with_held, with_mail, first_desk, Carries, IsEnvelope};
 
     /// The cell of an event that was just admitted: an Enter goes to the root, under its ticket as its entry number.
-    pub fn new(
-        alloc: Global,
-        ticket: Ticket,
-        kind: JobKind,
-        actor: A,
-        peek: bool,
-    ) -> Result<Cell<A>, OutOfMemory>
+    pub fn new(alloc: Global, ticket: Ticket, actor: A, peek: bool) -> Result<Cell<A>, OutOfMemory>
         ensures desk { IfOk result (λ c. StandsFor c (first_desk actor ticket.0 peek)) }
         ensures actor { IfOk result (λ c. c.actor ≡ Some actor) }
         ensures status { IfOk result (λ c. is_over c.status ≡ false) }
-        ensures kind { IfOk result (λ c. c.kind ≡ kind) }
         ensures one_mail { IfOk result (λ c. length c.outbox.mails ≡ 1) }
     {
         let mut outbox = Outbox::new(alloc);
@@ -73,49 +85,114 @@ impl<A: Drop> Cell<A> {
                 peek,
             },
         });
-        Ok(Cell {
+        let live = Live {
             actor: Some(actor),
             held: Held::new(alloc),
             outbox,
             status: Status::Travelling,
-            kind,
+        };
+        Ok(Cell {
+            life: Life::Live(Box::new(alloc, live)?),
         })
+    }
+
+    /// How far it has come.
+    pub fn status(&self) -> Status
+        ensures { result ≡ self.now.status }
+    {
+        match &self.life {
+            Life::Live(live) => live.status,
+            Life::Done(_) => Status::Ended,
+        }
+    }
+
+    /// How many mails it sent.
+    pub fn sent_count(&self) -> u32
+        ensures { result ≡ self.now.outbox.sent }
+    {
+        match &self.life {
+            Life::Live(live) => live.outbox.sent_count(),
+            Life::Done(sent) => *sent,
+        }
+    }
+
+    /// The mails under way by their numbers, in ascending order.
+    pub fn mails(&self) -> &[(u32, Envelope)]
+        ensures mails { result.now ≡ self.now.outbox.mails }
+        ensures ordered { IsStrictlySortedBy nat_cmp (keys_of result.now) }
+    {
+        match &self.life {
+            Life::Live(live) => live.outbox.as_slice(),
+            Life::Done(_) => &[],
+        }
+    }
+
+    /// The mail of a number.
+    pub fn mail(&self, number: u32) -> Option<&Envelope>
+        ensures { option_copied result ≡ mail_in self.now.outbox.mails number }
+    {
+        match &self.life {
+            Life::Live(live) => live.outbox.get(number),
+            Life::Done(_) => None,
+        }
+    }
+
+    /// What it holds, in the order of the paths.
+    pub fn holds(&self) -> &[(Path, Hold)]
+        ensures holds { result.now ≡ self.now.held.holds }
+        ensures ordered { IsStrictlySortedBy path_cmp (keys_of result.now) }
+    {
+        match &self.life {
+            Life::Live(live) => live.held.as_slice(),
+            Life::Done(_) => &[],
+        }
     }
 
     /// Makes room for so many more mails, and for one more context to hold.
     pub fn reserve(&mut self, mails: usize) -> Result<(), OutOfMemory>
+        requires { is_over self.old.status ≡ false }
         ensures mails { OnOk result (mails ≤ self.new.outbox.room) }
         ensures held { OnOk result (1 ≤ self.new.held.room) }
         ensures mails_room { self.old.outbox.room ≤ self.new.outbox.room }
         ensures held_room { self.old.held.room ≤ self.new.held.room }
         ensures same { SameButRooms self.old self.new }
     {
-        self.outbox.reserve(mails)?;
-        self.held.reserve()
+        match &mut self.life {
+            Life::Live(live) => {
+                live.outbox.reserve(mails)?;
+                live.held.reserve()
+            }
+            Life::Done(_) => unreachable!(),
+        }
     }
 
-    /// Takes a mail out. Once all is done the room of its mails is given back.
+    /// Takes a mail out.
     pub fn take_mail(&mut self, number: u32) -> Option<Envelope>
         ensures mail { (d : Desk A (List Value)) → StandsFor self.old d → Carries result (d.mails number) }
         ensures desk { (d : Desk A (List Value)) → StandsFor self.old d → StandsFor self.new (with_mail d number None) }
         ensures fewer_mails { length self.new.outbox.mails ≤ length self.old.outbox.mails }
         ensures actor { self.new.actor ≡ self.old.actor }
         ensures status { self.new.status ≡ self.old.status }
-        ensures held { self.new.held ≡ self.old.held }
-        ensures kind { self.new.kind ≡ self.old.kind }
+        ensures held { self.new.held.holds ≡ self.old.held.holds }
     {
-        let envelope = self.outbox.take(number);
+        let Life::Live(live) = &mut self.life else {
+            return None;
+        };
+        let envelope = live.outbox.take(number);
         self.rest();
         envelope
     }
 
-    // Gives back the room of the mails, once all is done.
+    // Once all is done, no more is kept than how many mails it sent.
     fn rest(&mut self)
         ensures same { SameButRooms self.old self.new }
-        ensures held { self.new.held ≡ self.old.held }
     {
-        if self.is_done() {
-            self.outbox.give_back();
+        let rest = match &self.life {
+            Life::Live(live) => live.rest(),
+            Life::Done(_) => None,
+        };
+        if let Some(sent) = rest {
+            self.life = Life::Done(sent);
         }
     }
 
@@ -128,21 +205,26 @@ impl<A: Drop> Cell<A> {
         ensures actor { self.new.actor ≡ self.old.actor }
         ensures status { self.new.status ≡ self.old.status }
         ensures held { self.new.held ≡ self.old.held }
-        ensures kind { self.new.kind ≡ self.old.kind }
     {
-        self.outbox.replace(number, envelope);
+        match &mut self.life {
+            Life::Live(live) => live.outbox.replace(number, envelope),
+            Life::Done(_) => unreachable!(),
+        }
     }
 
     /// An event that has not ended has another status.
     pub fn set_status(&mut self, status: Status)
+        requires { is_over self.old.status ≡ false }
         ensures desk { (d : Desk A (List Value)) → is_over self.old.status ≡ false → StandsFor self.old d → StandsFor self.new (with_actor d d.event.actor (status_of status)) }
         ensures actor { self.new.actor ≡ self.old.actor }
         ensures held { self.new.held ≡ self.old.held }
         ensures outbox { self.new.outbox ≡ self.old.outbox }
         ensures status { self.new.status ≡ status }
-        ensures kind { self.new.kind ≡ self.old.kind }
     {
-        self.status = status;
+        match &mut self.life {
+            Life::Live(live) => live.status = status,
+            Life::Done(_) => unreachable!(),
+        }
     }
 
     /// An event that has not ended holds a context from now on, and is ready there.
@@ -152,21 +234,30 @@ impl<A: Drop> Cell<A> {
         ensures actor { self.new.actor ≡ self.old.actor }
         ensures outbox { self.new.outbox ≡ self.old.outbox }
         ensures status { self.new.status ≡ Status.Ready path }
-        ensures kind { self.new.kind ≡ self.old.kind }
     {
-        self.held.put(path, hold);
-        self.status = Status::Ready(path);
+        match &mut self.life {
+            Life::Live(live) => {
+                let live: &mut Live<A> = live;
+                live.held.put(path, hold);
+                live.status = Status::Ready(path);
+            }
+            Life::Done(_) => unreachable!(),
+        }
     }
 
     /// How a context is held.
     pub fn hold(&self, path: &Path) -> Option<Hold>
         ensures { (d : Desk A (List Value)) → StandsFor self.now d → option_map hold_of result ≡ hold_at d.event.held path.now }
     {
-        self.held.get(path)
+        match &self.life {
+            Life::Live(live) => live.held.get(path),
+            Life::Done(_) => None,
+        }
     }
 
     /// A worker takes the actor, and runs it at a context.
     pub fn start(&mut self, path: Path) -> Option<A>
+        requires { is_over self.old.status ≡ false }
         ensures actor { (d : Desk A (List Value)) → is_over self.old.status ≡ false → StandsFor self.old d → result ≡ d.event.actor }
         ensures desk { (d : Desk A (List Value)) → StandsFor self.old d → StandsFor self.new (with_actor d None (theory.Running path)) }
         ensures away { self.new.actor ≡ None }
@@ -174,23 +265,32 @@ impl<A: Drop> Cell<A> {
         ensures outbox { self.new.outbox ≡ self.old.outbox }
         ensures held { self.new.held ≡ self.old.held }
         ensures status { self.new.status ≡ Status.Running path }
-        ensures kind { self.new.kind ≡ self.old.kind }
     {
-        self.status = Status::Running(path);
-        self.actor.take()
+        match &mut self.life {
+            Life::Live(live) => {
+                live.status = Status::Running(path);
+                live.actor.take()
+            }
+            Life::Done(_) => unreachable!(),
+        }
     }
 
     /// The actor comes back, and the event travels.
     pub fn put_back(&mut self, actor: A)
+        requires { is_over self.old.status ≡ false }
         ensures desk { (d : Desk A (List Value)) → StandsFor self.old d → StandsFor self.new (with_actor d (Some actor) theory.Travelling) }
         ensures actor { self.new.actor ≡ Some actor }
         ensures outbox { self.new.outbox ≡ self.old.outbox }
         ensures held { self.new.held ≡ self.old.held }
         ensures status { self.new.status ≡ Status.Travelling }
-        ensures kind { self.new.kind ≡ self.old.kind }
     {
-        self.actor = Some(actor);
-        self.status = Status::Travelling;
+        match &mut self.life {
+            Life::Live(live) => {
+                live.actor = Some(actor);
+                live.status = Status::Travelling;
+            }
+            Life::Done(_) => unreachable!(),
+        }
     }
 
     /// Sends a mail to a host, for a context.
@@ -204,9 +304,11 @@ impl<A: Drop> Cell<A> {
         ensures actor { self.new.actor ≡ self.old.actor }
         ensures held { self.new.held ≡ self.old.held }
         ensures status { self.new.status ≡ self.old.status }
-        ensures kind { self.new.kind ≡ self.old.kind }
     {
-        self.outbox.send(envelope);
+        match &mut self.life {
+            Life::Live(live) => live.outbox.send(envelope),
+            Life::Done(_) => unreachable!(),
+        }
     }
 
     /// No longer holds a context, without a Release.
@@ -216,9 +318,11 @@ impl<A: Drop> Cell<A> {
         ensures outbox { self.new.outbox ≡ self.old.outbox }
         ensures fewer { length self.new.held.holds ≤ length self.old.held.holds }
         ensures status { self.new.status ≡ self.old.status }
-        ensures kind { self.new.kind ≡ self.old.kind }
     {
-        self.held.remove(path);
+        let Life::Live(live) = &mut self.life else {
+            return;
+        };
+        live.held.remove(path);
     }
 
     /// Gives up all that it holds outside the subtree of a context: a Release for each, in the order of the paths.
@@ -230,10 +334,13 @@ impl<A: Drop> Cell<A> {
         ensures actor { self.new.actor ≡ self.old.actor }
         ensures status { self.new.status ≡ self.old.status }
         ensures fewer { length self.new.held.holds ≤ length self.old.held.holds }
-        ensures kind { self.new.kind ≡ self.old.kind }
     {
-        release(self.held.as_slice(), &mut self.outbox, Some(top));
-        self.held.keep_below(top);
+        let Life::Live(live) = &mut self.life else {
+            return;
+        };
+        let live: &mut Live<A> = live;
+        release(live.held.as_slice(), &mut live.outbox, Some(top));
+        live.held.keep_below(top);
     }
 
     /// Has a result: gives up all that it holds, a Release for each in the order of the paths, and drops its actor.
@@ -245,50 +352,25 @@ impl<A: Drop> Cell<A> {
         ensures actor { self.new.actor ≡ None }
         ensures status { self.new.status ≡ Status.Ended }
         ensures held { self.new.held.holds ≡ [] }
-        ensures kind { self.new.kind ≡ self.old.kind }
     {
-        release(self.held.as_slice(), &mut self.outbox, None);
-        self.held.clear();
-        self.actor = None;
-        self.status = Status::Ended;
+        let Life::Live(live) = &mut self.life else {
+            return;
+        };
+        let live: &mut Live<A> = live;
+        release(live.held.as_slice(), &mut live.outbox, None);
+        live.held.clear();
+        live.actor = None;
+        live.status = Status::Ended;
+        self.rest();
     }
 
     /// Whether all of it is done: it has ended, and no mail of it is under way.
     pub fn is_done(&self) -> bool
         ensures { result ≡ (is_over self.now.status && is_empty self.now.outbox.mails) }
     {
-        match self.status {
-            Status::Ended => self.outbox.as_slice().is_empty(),
-            _ => false,
+        match &self.life {
+            Life::Live(live) => live.is_done(),
+            Life::Done(_) => true,
         }
-    }
-}
-
-// Sends a Release for each of these contexts that is not in the subtree of `top`.
-fn release(held: &[(Path, Hold)], outbox: &mut Outbox, top: Option<&Path>)
-    requires room { length held.now ≤ outbox.old.room }
-    requires numbers { outbox.old.sent + length held.now < 2 ^ 32 }
-    ensures sent { outbox.new.sent ≡ outbox.old.sent + length (releases (keeps (option_copied top.entry)) held.now) }
-    ensures mails { outbox.new.mails ≡ sent_on outbox.old.mails outbox.old.sent (releases (keeps (option_copied top.entry)) held.now) }
-    ensures few { length outbox.new.mails ≤ length outbox.old.mails + length held.now }
-{
-    for &(path, hold) in held {
-        if !keeps(top, &path) {
-            outbox.send(Envelope {
-                to: hold.host,
-                path,
-                letter: Letter::Release,
-            });
-        }
-    }
-}
-
-// Whether a context is in the subtree of `top`, where there is one.
-fn keeps(top: Option<&Path>, path: &Path) -> bool
-    ensures { result ≡ keeps (option_copied top.entry) path.now }
-{
-    match top {
-        Some(top) => top.is_above(path),
-        None => false,
     }
 }

@@ -4,11 +4,12 @@
 mod cell;
 mod held;
 mod laws;
+mod live;
 mod outbox;
 mod status;
 
 pub use cell::{Cell, JobKind};
-pub use held::{Held, Hold};
+pub use held::Hold;
 pub use laws::cells_stand;
-pub use outbox::{Envelope, Outbox};
+pub use outbox::Envelope;
 pub use status::Status;

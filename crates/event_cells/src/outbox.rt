@@ -132,14 +132,6 @@ impl Outbox {
         }
     }
 
-    /// Gives back the room for which there are no mails, as far as the memory can be divided.
-    pub fn give_back(&mut self)
-        ensures sent { self.new.sent ≡ self.old.sent }
-        ensures mails { self.new.mails ≡ self.old.mails }
-    {
-        self.mails.shrink_to_fit();
-    }
-
     /// Puts another mail in the place of one that is under way.
     pub fn replace(&mut self, number: u32, envelope: Envelope)
         requires { IsSome (mail_in self.old.mails number) }

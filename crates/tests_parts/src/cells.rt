@@ -1,6 +1,9 @@
 //! Cells, call by call.
 
-use event_cells::{Cell, Envelope, Hold, JobKind, Status};
+ghost use Rattle.std.specs.Prelude.{◌≡◌, false};
+ghost use Rattle.event_cells.specs.Cells.{is_over};
+
+use event_cells::{Cell, Envelope, Hold, Status};
 use migration_core::Letter;
 use std::alloc::Global;
 use std::process::Abort;
@@ -17,20 +20,35 @@ fn at(host: u8) -> Hold {
 
 // The actor of the seventh ticket is the number 5.
 fn seventh(alloc: Global) -> Result<Cell<u8>, OutOfMemory> {
-    Cell::new(alloc, Ticket(7), JobKind::Event(2), 5, false)
+    Cell::new(alloc, Ticket(7), 5, false)
 }
 
-// What cells promise is read in the seven that follow alone, not in each test.
+// What only an event that has not ended can do wants to know it.
+fn goes_on(rt: &impl Abort, cell: &Cell<u8>)
+    ensures { is_over cell.now.status ≡ false }
+{
+    assert!(rt; !matches!(cell.status(), Status::Ended));
+}
+
+// What cells promise is read in the nine that follow alone, not in each test.
 fn let_in(rt: &impl Abort, cell: &mut Cell<u8>, path: Path, hold: Hold) {
+    goes_on(rt, cell);
     assert!(rt; cell.reserve(0).is_ok());
     cell.let_in(path, hold);
 }
 
-fn start(cell: &mut Cell<u8>, path: Path) -> Option<u8> {
+fn set_status(rt: &impl Abort, cell: &mut Cell<u8>, status: Status) {
+    goes_on(rt, cell);
+    cell.set_status(status);
+}
+
+fn start(rt: &impl Abort, cell: &mut Cell<u8>, path: Path) -> Option<u8> {
+    goes_on(rt, cell);
     cell.start(path)
 }
 
-fn put_back(cell: &mut Cell<u8>, actor: u8) {
+fn put_back(rt: &impl Abort, cell: &mut Cell<u8>, actor: u8) {
+    goes_on(rt, cell);
     cell.put_back(actor);
 }
 
@@ -39,21 +57,24 @@ fn take_mail(cell: &mut Cell<u8>, number: u32) -> Option<Envelope> {
 }
 
 fn send(rt: &impl Abort, cell: &mut Cell<u8>, envelope: Envelope) {
-    assert!(rt; cell.outbox.sent_count() < 100);
+    goes_on(rt, cell);
+    assert!(rt; cell.sent_count() < 100);
     assert!(rt; cell.reserve(1).is_ok());
     cell.send(envelope);
 }
 
 fn release_outside(rt: &impl Abort, cell: &mut Cell<u8>, top: &Path) {
-    let mails = cell.held.as_slice().len();
-    assert!(rt; mails < 100 && cell.outbox.sent_count() < 100);
+    goes_on(rt, cell);
+    let mails = cell.holds().len();
+    assert!(rt; mails < 100 && cell.sent_count() < 100);
     assert!(rt; cell.reserve(mails).is_ok());
     cell.release_outside(top);
 }
 
 fn end(rt: &impl Abort, cell: &mut Cell<u8>) {
-    let mails = cell.held.as_slice().len();
-    assert!(rt; mails < 100 && cell.outbox.sent_count() < 100);
+    goes_on(rt, cell);
+    let mails = cell.holds().len();
+    assert!(rt; mails < 100 && cell.sent_count() < 100);
     assert!(rt; cell.reserve(mails).is_ok());
     cell.end();
 }
@@ -90,12 +111,11 @@ fn is_enter(mail: Option<&Envelope>, entry: u64) -> bool {
 #[test]
 fn an_admitted_event_enters_the_root(rt: HostRuntime) -> Result<(), Fail> {
     let mut cell = seventh(rt.alloc())?;
-    assert!(rt; cell.outbox.sent_count() == 1);
+    assert!(rt; cell.sent_count() == 1);
     let mail = take_mail(&mut cell, 1);
     assert!(rt; is_enter(mail.as_ref(), 7));
     assert!(rt; take_mail(&mut cell, 1).is_none());
-    assert!(rt; cell.outbox.as_slice().is_empty());
-    assert!(rt; cell.kind == JobKind::Event(2));
+    assert!(rt; cell.mails().is_empty());
     Ok(())
 }
 
@@ -103,16 +123,16 @@ fn an_admitted_event_enters_the_root(rt: HostRuntime) -> Result<(), Fail> {
 fn a_go_gives_up_what_is_outside(rt: HostRuntime) -> Result<(), Fail> {
     let mut cell = seventh(rt.alloc())?;
     let root = Path::root();
-    cell.set_status(Status::Waiting(root));
+    set_status(&rt, &mut cell, Status::Waiting(root));
     let_in(&rt, &mut cell, root, at(2));
-    assert!(rt; cell.status == Status::Ready(root));
+    assert!(rt; cell.status() == Status::Ready(root));
     assert!(rt; cell.hold(&root) == Some(at(2)));
-    assert!(rt; start(&mut cell, root) == Some(5));
-    assert!(rt; cell.status == Status::Running(root) && cell.actor.is_none());
-    put_back(&mut cell, 6);
-    assert!(rt; cell.status == Status::Travelling && cell.actor == Some(6));
-    assert!(rt; cell.held.as_slice().len() == 1);
-    assert!(rt; cell.outbox.sent_count() == 1);
+    assert!(rt; start(&rt, &mut cell, root) == Some(5));
+    assert!(rt; cell.status() == Status::Running(root));
+    put_back(&rt, &mut cell, 6);
+    assert!(rt; cell.status() == Status::Travelling);
+    assert!(rt; cell.holds().len() == 1);
+    assert!(rt; cell.sent_count() == 1);
     let visit = Envelope {
         to: Host(1),
         path: hall(-3),
@@ -120,9 +140,10 @@ fn a_go_gives_up_what_is_outside(rt: HostRuntime) -> Result<(), Fail> {
     };
     send(&rt, &mut cell, visit);
     release_outside(&rt, &mut cell, &hall(-3));
-    assert!(rt; matches!(cell.outbox.get(2), Some(mail) if mail.to == Host(1)));
-    assert!(rt; is_release(cell.outbox.get(3), 2, root));
-    assert!(rt; cell.held.as_slice().is_empty());
+    assert!(rt; matches!(cell.mail(2), Some(mail) if mail.to == Host(1)));
+    assert!(rt; is_release(cell.mail(3), 2, root));
+    assert!(rt; cell.holds().is_empty());
+    assert!(rt; start(&rt, &mut cell, root) == Some(6));
     Ok(())
 }
 
@@ -132,18 +153,22 @@ fn what_is_over_gives_up_all_in_path_order(rt: HostRuntime) -> Result<(), Fail> 
     let root = Path::root();
     let_in(&rt, &mut cell, hall(-3), at(1));
     let_in(&rt, &mut cell, root, at(2));
-    assert!(rt; cell.held.as_slice().len() == 2);
-    assert!(rt; cell.outbox.sent_count() == 1);
+    assert!(rt; cell.holds().len() == 2);
+    assert!(rt; cell.sent_count() == 1);
     end(&rt, &mut cell);
-    assert!(rt; cell.actor.is_none() && cell.status == Status::Ended);
-    assert!(rt; cell.outbox.sent_count() == 3);
-    assert!(rt; is_release(cell.outbox.get(2), 2, root));
-    assert!(rt; is_release(cell.outbox.get(3), 1, hall(-3)));
+    assert!(rt; cell.status() == Status::Ended);
+    assert!(rt; cell.sent_count() == 3);
+    assert!(rt; is_release(cell.mail(2), 2, root));
+    assert!(rt; is_release(cell.mail(3), 1, hall(-3)));
     for number in [2, 1, 3] {
         assert!(rt; !cell.is_done());
         assert!(rt; take_mail(&mut cell, number).is_some());
     }
     assert!(rt; cell.is_done());
+    assert!(rt; cell.status() == Status::Ended && cell.sent_count() == 3);
+    assert!(rt; cell.mails().is_empty() && cell.holds().is_empty());
+    assert!(rt; cell.mail(3).is_none() && cell.hold(&root).is_none());
+    assert!(rt; take_mail(&mut cell, 3).is_none());
     Ok(())
 }
 
@@ -153,8 +178,8 @@ fn a_context_is_let_go_without_a_release(rt: HostRuntime) -> Result<(), Fail> {
     let_in(&rt, &mut cell, hall(-3), at(1));
     cell.let_go(&hall(-3));
     assert!(rt; cell.hold(&hall(-3)).is_none());
-    assert!(rt; cell.outbox.sent_count() == 1);
-    if cell.outbox.get(1).is_some() {
+    assert!(rt; cell.sent_count() == 1);
+    if cell.mail(1).is_some() {
         cell.redirect(
             1,
             Envelope {
@@ -164,6 +189,6 @@ fn a_context_is_let_go_without_a_release(rt: HostRuntime) -> Result<(), Fail> {
             },
         );
     }
-    assert!(rt; matches!(cell.outbox.get(1), Some(mail) if mail.to == Host(3)));
+    assert!(rt; matches!(cell.mail(1), Some(mail) if mail.to == Host(3)));
     Ok(())
 }

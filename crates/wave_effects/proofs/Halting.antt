@@ -17,7 +17,7 @@ use Rattle.script_fold.proofs.LeftLemmas.{most_lines}
 use Rattle.context_queue.specs.declared.entry.Entry as E
 use Rattle.host_map.specs.Stores.{Stores, Matches, has}
 use Rattle.event_cells.specs.declared.cell.Cell.{Cell}
-use Rattle.event_cells.specs.Cells.{held_of}
+use Rattle.event_cells.specs.Cells.{held_of, is_over}
 use Rattle.code_actor.specs.CodeActors.{Fields}
 use Rattle.wave_base.specs.Places.{with_contexts}
 use Rattle.wave_base.specs.Tree.{Tree}
@@ -25,20 +25,22 @@ use Rattle.wave_states.specs.Alone.{fold_alone, job_after, places_alone, run_alo
 use Rattle.wave_states.specs.Begins.{Begin, has_moved}
 use Rattle.wave_states.specs.Kinds.{Kind}
 use Rattle.wave_states.specs.Labels.{Label}
-use Rattle.wave_states.specs.States.{Entry, Running, Ended}
+use Rattle.wave_states.specs.States.{Entry, Event, Running, Ended}
 use Rattle.wave_states.specs.Steps.{step}
 use Rattle.wave_states.specs.Work.{WorkNumbers, moves_away, work_after, work_of_job}
 use Rattle.wave_theory.proofs.Basics.{none_not, some_not, options}
 use Rattle.wave_theory.specs.Hands.{CanStop}
 use Rattle.wave_theory.specs.Trails.{IsTrail, IsUnborn}
+use Rattle.plan_actors.specs.PlanActors as actors
 use Rattle.plan_actors.specs.PlanActors.{plan_actors, plan_kind}
 use Rattle.plan_actors.specs.Plans.{Plan, Fits, FitsStart, begin_in}
 use Rattle.wave_effects.specs.declared.actor.Actor.{Actor}
 use Rattle.wave_effects.specs.declared.lease.Lease.{Lease}
-use Rattle.wave_effects.specs.Machines.{TheState, Kept, IsReached, Stands, event_as}
+use Rattle.wave_effects.specs.Machines.{TheState, Kept, IsCell, IsReached, Stands, event_as}
 use Rattle.wave_effects.specs.Running as running
 use Rattle.wave_effects.specs.Running.{IsBack, IsStopping, stop_of}
-use Rattle.wave_effects.proofs.Reached.{has_it, host_is}
+use Rattle.wave_effects.proofs.CellParts.{same_event}
+use Rattle.wave_effects.proofs.Reached.{has_it, host_is, not_over}
 use Rattle.wave_effects.proofs.StoreParts.{stands_there}
 use Rattle.wave_effects.proofs.Taking.{Laws, now, placed}
 
@@ -123,6 +125,13 @@ module _ (laws : Laws) (segments : Segments) (m : Kept) (lease : Lease) (why : P
       by_result : (o : Option EventResult) → (s.cells t).result ≡ o → o ≡ None
       by_result None e = refl
       by_result (Some r) e = absurd (running_on back.hand.path (sym can.running ∙ ((now laws m start s stands).agree.ended t can.event event_is).0 (ap is_some e)))
+
+  -- so its event has not ended
+  pub goes_on : (i : ℕ) (c : Cell Actor) → m.first + i ≡ t → slice_get m.cells i ≡ Some c → is_over c.status ≡ false
+  goes_on i c at there =
+      let is : IsCell m.plan.program c (s.cells t) = subst (λ n. IsCell m.plan.program c (s.cells n)) at (stands.shows.cells.each i c there) in
+      let same = same_event can.event (event_as is.desk.event) (s.cells t).event event_is is.event in
+      not_over c is.desk is.stands (λ e. running_on back.hand.path (sym can.running ∙ ap (λ (z : Event actors.Actor). z.status) same ∙ e))
 
   here : is_some ((s.columns p).store can.host) ≡ true
   here = ap (λ q. is_some ((s.columns q).store can.host)) (sym back.run.path) ∙ can.here

@@ -235,6 +235,14 @@ module _ (laws : Laws) (m : Kept) (t k : ℕ) (p : Path) (w host : ℕ) where
             ap is_some (asks_of (mail_in c.outbox.mails k) ((s.cells t).mails k) v.ask host p (subst (Carries (mail_in c.outbox.mails k)) (sym (x.mails k)) (x.stands.mails k)) v.letter_at);
       }
 
+  -- its event has not ended
+  pub queue_goes_on : IsEnabled m (record { worker = w; host = host; act = Queue t k p }) → (i : ℕ) (c : Cell Actor) → m.first + i ≡ t → slice_get m.cells i ≡ Some c → is_over c.status ≡ false
+  queue_goes_on on i c at there =
+      let l : Label = record { worker = w; host = host; act = Queue t k p } in
+      let known = now laws m on.start on.state on.stands in
+      let known' = laws m.plan on.start (on.stands.labels ++ l ∷ []) on.next on.stands.fits on.stands.begins (after laws m on.start on.state on.stands l on.next on.enabled) in
+      queue_on m (begin_in m.plan on.start) on.state on.next t k p w host i c on.stands.shows at there known.agree known'.agree on.enabled
+
   pub queue_taken : (i : ℕ) (c c' : Cell Actor) (st st' : Stores) (born : Option Entry) (number : ℕ) (peek : Bool) → m.first + i ≡ t → slice_get m.cells i ≡ Some c → TakesAndWaits c c' k (theory.Waiting p) → slice_get m.stores host ≡ Some st → PartToQueue m host p born
       → option_map (λ (a : Ask). a.number) (asked_in (mail_in c.outbox.mails k)) ≡ Some number → option_map (λ (a : Ask). a.peek) (asked_in (mail_in c.outbox.mails k)) ≡ Some peek → LinesUp st st' p born number (record { ticket = t; peek = peek })
       → Takes m (with_store (with_cell m i c') host st') (record { worker = w; host = host; act = Queue t k p })

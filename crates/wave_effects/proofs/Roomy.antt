@@ -29,7 +29,7 @@ with_commits m k = record { plan = m.plan; first = m.first; head = m.head; commi
 
 module _ (m : Kept) where
   cell_itself : (i : ℕ) (c : Cell Actor) → slice_get m.cells i ≡ Some c → IsCellOf m i c
-  cell_itself i c e = record { cell = c; there = e; room = omega arith; same = record { actor = refl; held = refl; sent = refl; mails = refl; status = refl; kind = refl } }
+  cell_itself i c e = record { cell = c; there = e; room = omega arith; same = record { actor = refl; held = refl; sent = refl; mails = refl; status = refl } }
 
   store_itself : (h : ℕ) (st : Stores) → slice_get m.stores h ≡ Some st → IsStoreOf m h st
   store_itself h st e = record { stores = st; there = e; store = refl; gone = refl; room = omega arith }

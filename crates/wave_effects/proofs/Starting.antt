@@ -133,7 +133,7 @@ module _ (m : Kept) (s s' : TheState) (t : ℕ) (p : Path) (w host : ℕ) (h : S
     looks_is : only_looks c p ≡ holds_as_peek v.event.held p
     looks_is = ap (λ l. holds_as_peek l p) (sym cell_is.stands.held ∙ ap (λ (z : theory.Event actors.Actor). z.held) (sym same))
 
-    on : is_over c.status ≡ false
+    pub on : is_over c.status ≡ false
     on = not_over c cell_is.desk cell_is.stands (λ f. ready_on p (sym v.ready ∙ ap (λ (z : theory.Event actors.Actor). z.status) same ∙ f))
 
     -- the cell has the actor
@@ -174,6 +174,7 @@ module _ (laws : Laws) (m : Kept) (t : ℕ) (p : Path) (w host : ℕ) where
     pub worker_in : w < length m.hands
     pub there : (st : Stores) → slice_get m.stores host ≡ Some st → has p st ≡ true
     pub actor : (i : ℕ) (c : Cell Actor) → m.first + i ≡ t → slice_get m.cells i ≡ Some c → is_some c.actor ≡ true
+    pub on : (i : ℕ) (c : Cell Actor) → m.first + i ≡ t → slice_get m.cells i ≡ Some c → is_over c.status ≡ false
     pub home : (st : Stores) (e : Entry) → slice_get m.stores host ≡ Some st → table.get st.store p ≡ Some e → is_some e.body ≡ true
 
   pub start_placed : IsEnabled m (record { worker = w; host = host; act = labels.Start t p }) → StartAt
@@ -193,6 +194,7 @@ module _ (laws : Laws) (m : Kept) (t : ℕ) (p : Path) (w host : ℕ) where
         worker_in = omega (arith, lt_is w m.plan.workers worker, hands);
         there = λ st e. has_it (table.get st.store p) ((s.columns p).store host) x.entry (enabled.stands.shows.stores.each host st e p).entry x.entry_is;
         actor = λ i c at there. actor_there m s enabled.next t p w host enabled.stands.shows enabled.enabled i c at there;
+        on = λ i c at there. on m s enabled.next t p w host enabled.stands.shows enabled.enabled i c at there;
         home = λ st e here found.
             let stands = stands_there (table.get st.store p) ((s.columns p).store host) e x.entry (enabled.stands.shows.stores.each host st here p).entry found x.entry_is in
             map_is_some record_of e.body x.body (sym stands.body ∙ x.body_is);

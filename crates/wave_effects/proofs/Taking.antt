@@ -1,5 +1,5 @@
 -- A label that is taken: the machine stands for what it leads to.
-use Rattle.std.proofs.Common.{◌≡◌, ◌≢◌, ◌∙◌, ℕ, ◌+◌, ◌<◌, ◌≤◌, true, List, [], ◌∷◌, ◌++◌, length, is_some, Option, Some, refl, sym, ap, subst, arith}
+use Rattle.std.proofs.Common.{◌≡◌, ◌≢◌, ◌∙◌, ℕ, ◌+◌, ◌<◌, ◌≤◌, true, false, List, [], ◌∷◌, ◌++◌, length, is_some, Option, Some, refl, sym, ap, subst, arith}
 use Rattle.std.specs.Prelude.{slice_get, option_and_then, option_map}
 use Rattle.wave_base.specs.declared.path.Path.{Path}
 use Rattle.wave_base.specs.declared.start.Start.{Start}
@@ -25,7 +25,7 @@ use Rattle.plan_actors.specs.Plans.{Plan, Fits, FitsStart, begin_in}
 use Rattle.wave_effects.specs.declared.actor.Actor.{Actor}
 use Rattle.wave_effects.specs.Machines.{TheState, Kept, IsCell, IsReached, Known, IsEnabled, Shows, Stands, Takes}
 use Rattle.event_cells.specs.declared.outbox.Envelope.{Envelope}
-use Rattle.event_cells.specs.Cells.{Carries, IsEnvelope, StandsFor}
+use Rattle.event_cells.specs.Cells.{Carries, IsEnvelope, StandsFor, is_over}
 use Rattle.event_cells.specs.Keeps.{mail_in}
 use Rattle.migration_core.specs.Letters.{Says}
 use Rattle.wave_effects.specs.Keeping.{entry_in}
@@ -71,6 +71,14 @@ module _ (laws : Laws) (m : Kept) (t k : ℕ) (p : Path) (w host : ℕ) where
       let calm = visit_found sys host (part_of on.state t p) left.bench t k p (on.state.hands w) left.found in
       let v = visits k p host (part_of on.state t p) left.bench.part calm.part in
       placed laws m on.start on.state on.stands t v.event v.event_is
+
+  -- its event has not ended
+  pub visit_goes_on : IsEnabled m (record { worker = w; host = host; act = Visit t k p }) → (i : ℕ) (c : Cell Actor) → m.first + i ≡ t → slice_get m.cells i ≡ Some c → is_over c.status ≡ false
+  visit_goes_on on i c at there =
+      let l : Label = record { worker = w; host = host; act = Visit t k p } in
+      let known = now laws m on.start on.state on.stands in
+      let known' = laws m.plan on.start (on.stands.labels ++ l ∷ []) on.next on.stands.fits on.stands.begins (after laws m on.start on.state on.stands l on.next on.enabled) in
+      visit_on m (begin_in m.plan on.start) on.state on.next t k p w host i c c on.stands.shows at there known.agree known'.agree on.enabled
 
   pub visit_taken : (i : ℕ) (c c' : Cell Actor) → m.first + i ≡ t → slice_get m.cells i ≡ Some c → TakesAndWaits c c' k (theory.Ready p) → Takes m (with_cell m i c') (record { worker = w; host = host; act = Visit t k p })
   visit_taken i c c' at there takes start s s' stands e =
@@ -151,6 +159,14 @@ module _ (laws : Laws) (m : Kept) (t : ℕ) (p : Path) (w host : ℕ) where
         host_in = omega (arith, place, many);
         there = λ st e. has_it (table.get st.store p) ((s.columns p).store host) v.entry (on.stands.shows.stores.each host st e p).entry v.entry_is;
       }
+
+  -- its event has not ended
+  pub grant_goes_on : IsEnabled m (record { worker = w; host = host; act = Grant t p }) → (i : ℕ) (c : Cell Actor) → m.first + i ≡ t → slice_get m.cells i ≡ Some c → is_over c.status ≡ false
+  grant_goes_on on i c at there =
+      let l : Label = record { worker = w; host = host; act = Grant t p } in
+      let known = now laws m on.start on.state on.stands in
+      let known' = laws m.plan on.start (on.stands.labels ++ l ∷ []) on.next on.stands.fits on.stands.begins (after laws m on.start on.state on.stands l on.next on.enabled) in
+      grant_on m (begin_in m.plan on.start) on.state on.next t 0 p w host i c c on.stands.shows at there known.agree known'.agree on.enabled
 
   pub grant_taken : (i : ℕ) (c c' : Cell Actor) (st st' : Stores) (e e' : Entry) (hold : Hold) → m.first + i ≡ t → slice_get m.cells i ≡ Some c → LetsIn c c' p hold → slice_get m.stores host ≡ Some st → table.get st.store p ≡ Some e → Writes st st' p e'
       → hold.host.0 ≡ host → ((en : theory.Entry Fields) (claim : theory.Claim) → EntryStands e en → next_in en ≡ Some claim → hold.peek ≡ claim.peek)

@@ -1,17 +1,19 @@
 -- Room that a Stop makes beforehand.
-use Rattle.std.specs.Prelude.{◌≡◌, ◌+◌, ◌-◌, ◌<◌, ◌≤◌, ℕ, length, Some, slice_get, vec_len, vec_capacity}
+use Rattle.std.specs.Prelude.{◌≡◌, ◌+◌, ◌-◌, ◌<◌, ◌≤◌, ℕ, false, length, Some, slice_get, vec_len, vec_capacity}
 use Rattle.host_map.specs.Stores.{Stores}
 use Rattle.event_cells.specs.declared.cell.Cell.{Cell}
 use Rattle.event_cells.specs.Cells as cells
+use Rattle.event_cells.specs.Cells.{is_over}
 use Rattle.wave_effects.specs.declared.actor.Actor.{Actor}
 use Rattle.wave_effects.specs.declared.engine.Engine.{Engine}
 use Rattle.wave_effects.specs.Machines.{Kept}
 
--- the ticket has a cell, and there is such a host
+-- the ticket has a cell, whose event has not ended, and there is such a host
 pub record HasPlace (m : Kept) (host t : ℕ) : Type 0 where
   pub low : m.first ≤ t
   pub within : t < m.first + length m.cells
   pub host_in : host < length m.stores
+  pub goes_on : (c : Cell Actor) → slice_get m.cells (t - m.first) ≡ Some c → is_over c.status ≡ false
 
 -- for a Release of each context that is held and one more mail, for a departure mark, and for a result
 pub record RoomToStop (m : Kept) (host t : ℕ) : Type 0 where

@@ -15,7 +15,7 @@ unboxed_value None = None
 unboxed_value (Some b) = Some b.value
 
 abbrev pub cell_in : Prepared → Option (Cell Actor)
-cell_in (part.Event c) = Some c.value
+cell_in (part.Event c) = Some c
 cell_in _ = None
 
 abbrev pub entry_in : Prepared → Option (Option Entry)

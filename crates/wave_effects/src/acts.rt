@@ -29,10 +29,7 @@ impl<'p> Engine<'p> {
     {
         let host = label.host;
         match label.act {
-            Act::Admit(_) => {
-                let cell = self.prepare_admit(alloc)?;
-                Ok(Prepared::Event(Box::new(alloc, cell)?))
-            }
+            Act::Admit(_) => Ok(Prepared::Event(self.prepare_admit(alloc)?)),
             Act::Queue(mail, path) => {
                 let entry = self.prepare_queue(alloc, host, mail, &path)?;
                 Ok(Prepared::Entry(box_part(alloc, entry)?))

@@ -18,7 +18,7 @@ use crate::engine::Engine;
 use crate::known::heads_are_known;
 use crate::laws::states_are_known;
 use crate::places::{listed_places, stored_place};
-use event_cells::{Cell, Envelope, Outbox};
+use event_cells::{Cell, Envelope};
 use host_map::HostStore;
 use migration_core::Letter;
 use std::alloc::Global;
@@ -71,19 +71,19 @@ fn owners(
 {
     let mut hosts = stored_place(alloc, stores)?;
     for cell in cells {
-        add_carried(&mut hosts, &cell.outbox)?;
+        add_carried(&mut hosts, cell)?;
     }
     let owners = listed_places(alloc, &hosts)?;
     Ok(owners)
 }
 
 // Each context that a mail carries is where the mail is on its way to.
-fn add_carried(hosts: &mut BTreeMap<Path, Host>, outbox: &Outbox) -> Result<(), OutOfMemory>
-    ensures there { OnOk result (AllByRecursion (λ e. IsOldOr hosts.old.entries outbox.now.mails e.0 e.1) hosts.new.entries) }
-    ensures more { OnOk result ((p : path.Path) (h : host.Host) → IsCarried outbox.now.mails p h → list_any (path_eq p) (keys hosts.new) ≡ true) }
+fn add_carried(hosts: &mut BTreeMap<Path, Host>, cell: &Cell<Actor>) -> Result<(), OutOfMemory>
+    ensures there { OnOk result (AllByRecursion (λ e. IsOldOr hosts.old.entries cell.now.outbox.mails e.0 e.1) hosts.new.entries) }
+    ensures more { OnOk result ((p : path.Path) (h : host.Host) → IsCarried cell.now.outbox.mails p h → list_any (path_eq p) (keys hosts.new) ≡ true) }
     ensures kept { OnOk result ((p : path.Path) → list_any (path_eq p) (keys hosts.old) ≡ true → list_any (path_eq p) (keys hosts.new) ≡ true) }
 {
-    let mails = outbox.as_slice();
+    let mails = cell.mails();
     for mail in mails {
         add_one(hosts, &mail.1)?;
     }

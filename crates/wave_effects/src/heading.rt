@@ -14,7 +14,7 @@ use crate::engine::Engine;
 use crate::kept::Settled;
 use crate::known::heads_are_known;
 use crate::laws::states_are_known;
-use crate::makes::{job_kind, kind_of_job, make};
+use crate::makes::{kind_of_job, make};
 use event_cells::Cell;
 use head_tickets::Head;
 use std::alloc::Global;
@@ -39,7 +39,7 @@ impl<'p> Engine<'p> {
         let line = self.head.upcoming().unwrap();
         let actor = make(alloc, &self.plan.program, line, ticket)?;
         let peek = actor.peeking();
-        Cell::new(alloc, ticket, job_kind(line), actor, peek)
+        Cell::new(alloc, ticket, actor, peek)
     }
 
     // Admit: the next job has its cell.

@@ -1,11 +1,11 @@
 //! How a Stop leaves a context and its event, by the pause of its segment. What wants memory comes first, by `aim`.
 
-ghost use Rattle.std.specs.Prelude.{ℕ, suc, Bool, ◌≡◌, ◌≢◌, ◌≤◌, ◌<◌, ◌+◌, ◌^◌, ◌++◌, ◌∷◌, [], true, List, length, Option, Some, None, IfOk, OnErr, nat_eq, option_map, is_some};
+ghost use Rattle.std.specs.Prelude.{ℕ, suc, Bool, ◌≡◌, ◌≢◌, ◌≤◌, ◌<◌, ◌+◌, ◌^◌, ◌++◌, ◌∷◌, [], true, false, List, length, Option, Some, None, IfOk, OnErr, nat_eq, option_map, is_some};
 ghost use Rattle.std.specs.FinMap as map;
 ghost use Rattle.code_actor.specs.CodeActors.{Fields, pause_of};
 ghost use Rattle.context_queue.specs.Entries.{record_of};
 ghost use Rattle.context_queue.specs.declared.entry.Entry.{Entry};
-ghost use Rattle.event_cells.specs.Cells.{StandsFor, IsEnvelope, with_actor};
+ghost use Rattle.event_cells.specs.Cells.{StandsFor, IsEnvelope, is_over, with_actor};
 ghost use Rattle.event_cells.specs.declared.outbox.Envelope as declared;
 ghost use Rattle.host_map.specs.Stores.{IsAt, has};
 ghost use Rattle.wave_base.specs.Kids.{child_at, with_child};
@@ -259,6 +259,7 @@ pub(crate) fn leave(
     pause: Pause,
     mail: Option<Envelope>,
 ) -> Option<EventResult>
+    requires goes_on { is_over cell.old.status ≡ false }
     requires there { has lease.path store.old ≡ true }
     requires counted { (e : Entry) → map.get store.old.store lease.path ≡ Some e → e.moves + 1 < 2 ^ 64 }
     requires marks { 1 ≤ store.old.mark_room }

@@ -61,18 +61,7 @@ fn serve(
     }
 }
 
-// What a cell says of the job of a line.
-pub(crate) fn job_kind(line: &Line) -> JobKind
-    ensures { result ≡ job_kind line.now }
-{
-    match line {
-        Line::Request(call) => JobKind::Event(call.event),
-        Line::Move(_, _) => JobKind::Move,
-        Line::Snapshot => JobKind::Snapshot,
-    }
-}
-
-// And of a job.
+// What is kept of the kind of a job.
 pub(crate) fn kind_of_job(job: &Job) -> JobKind
     ensures { result ≡ job_kind (line_of job.now) }
 {

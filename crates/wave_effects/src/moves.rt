@@ -89,7 +89,7 @@ impl<'p> Engine<'p> {
         let store = &self.stores[host.0 as usize];
         let followed = number_in(store.find(&path));
         let cell = &mut self.cells[(mail.ticket.0 - self.first) as usize];
-        let (number, peek) = asked_in(cell.outbox.get(mail.number));
+        let (number, peek) = asked_in(cell.mail(mail.number));
         let letter = Letter::Enter {
             number,
             followed,
@@ -108,7 +108,7 @@ impl<'p> Engine<'p> {
     {
         states_are_known();
         let cell = &mut self.cells[(mail.ticket.0 - self.first) as usize];
-        let (number, peek) = asked_in(cell.outbox.get(mail.number));
+        let (number, peek) = asked_in(cell.mail(mail.number));
         let _ = cell.take_mail(mail.number);
         cell.set_status(Status::Waiting(path));
         let store = &mut self.stores[host.0 as usize];

@@ -15,7 +15,7 @@ pub enum Prepared {
     /// Room alone.
     Room,
     /// The cell of the job that is admitted.
-    Event(Box<Cell<Actor>>),
+    Event(Cell<Actor>),
     /// The entry of a context that is born, where it is.
     Entry(Option<Box<Entry>>),
     /// The copy of a record, where the event only looks.
@@ -33,7 +33,7 @@ impl Prepared {
         ensures { cell_in self ≡ Some result }
     {
         match self {
-            Prepared::Event(cell) => Box::into_inner(cell),
+            Prepared::Event(cell) => cell,
             _ => unreachable!(),
         }
     }

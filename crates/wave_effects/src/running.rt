@@ -100,7 +100,7 @@ impl<'p> Engine<'p> {
         ensures plan { self.new.plan ≡ self.old.plan }
     {
         let cell = &mut self.cells[(ticket.0 - self.first) as usize];
-        let mails = cell.held.as_slice().len() + 1;
+        let mails = cell.holds().len() + 1;
         cell.reserve(mails)?;
         self.stores[host.0 as usize].reserve()?;
         self.commits.reserve()

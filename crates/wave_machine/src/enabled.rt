@@ -123,7 +123,7 @@ fn ask_all_stops(
 {
     for i in done..engine.cells.len() {
         let ticket = Ticket(engine.first + i as u32);
-        ask_stops(engine, takers, ticket, engine.cells[i].status, labels)?;
+        ask_stops(engine, takers, ticket, engine.cells[i].status(), labels)?;
     }
     Ok(())
 }

@@ -50,7 +50,7 @@ pub(crate) fn sent_at(engine: &Engine, ticket: Ticket) -> u32
     ensures { result ≡ sent_at (kept_of engine.now) ticket.0 }
 {
     match cell_at(engine, ticket) {
-        Some(cell) => cell.outbox.sent_count(),
+        Some(cell) => cell.sent_count(),
         None => 0,
     }
 }
@@ -60,7 +60,7 @@ pub(crate) fn asks_at(engine: &Engine, ticket: Ticket) -> bool
     ensures { result ≡ asks_at (kept_of engine.now) ticket.0 }
 {
     match cell_at(engine, ticket) {
-        Some(cell) => asks_in(&cell.status),
+        Some(cell) => asks_in(&cell.status()),
         None => false,
     }
 }
@@ -80,7 +80,7 @@ pub(crate) fn may_leave(engine: &Engine, ticket: Ticket) -> usize
     ensures { result ≡ 1 + held_at (kept_of engine.now) ticket.0 }
 {
     match cell_at(engine, ticket) {
-        Some(cell) => 1 + cell.held.as_slice().len(),
+        Some(cell) => 1 + cell.holds().len(),
         None => 1,
     }
 }
@@ -114,7 +114,7 @@ fn share_of(cell: &Cell<Actor>) -> usize
     if cell.is_done() {
         0
     } else {
-        1 + cell.outbox.as_slice().len()
+        1 + cell.mails().len()
     }
 }
 

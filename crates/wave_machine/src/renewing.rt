@@ -1,6 +1,6 @@
 //! What the index has of a ticket, of all tickets and of the head, listed anew.
 
-ghost use Rattle.std.specs.Prelude.{◌≡◌, ◌↔◌, ◌≤◌, ◌<◌, ◌+◌, ◌++◌, ◌^◌, ◌||◌, ℕ, IsTrue, List, Option, Some, true, drop, flat_map, length, map, is_some, option_map, slice_get, take, vec_len, vec_capacity};
+ghost use Rattle.std.specs.Prelude.{◌≡◌, false, ◌↔◌, ◌≤◌, ◌<◌, ◌+◌, ◌++◌, ◌^◌, ◌||◌, ℕ, IsTrue, List, Option, Some, true, drop, flat_map, length, map, is_some, option_map, slice_get, take, vec_len, vec_capacity};
 ghost use Rattle.std.specs.List.{AllByRecursion};
 ghost use Rattle.std.specs.List.Sorted.{IsStrictlySortedBy};
 ghost use Rattle.std.specs.Map.{keys_of};
@@ -140,9 +140,9 @@ fn slot_label(engine: &Engine, ticket: Ticket, number: u32, cell: &Cell<Actor>) 
     ensures { labels_in result ≡ asked_as engine.now.stores.items ticket.0 cell.now number }
 {
     if number == 0 {
-        return status_label(engine, Worker(0), ticket, &cell.status);
+        return status_label(engine, Worker(0), ticket, &cell.status());
     }
-    match cell.outbox.get(number) {
+    match cell.mail(number) {
         Some(envelope) => mail_label(engine, Worker(0), MailId { ticket, number }, envelope),
         None => None,
     }
@@ -191,7 +191,7 @@ fn list_new(engine: &Engine, ticket: Ticket, sent: u32, index: &mut Vec<Ready>)
 {
     match cell_at(engine, ticket) {
         Some(cell) => {
-            let mails = cell.outbox.as_slice();
+            let mails = cell.mails();
             list_mails(engine, ticket, &mails[first_above(mails, sent)..], index);
         }
         None => (),
@@ -237,8 +237,11 @@ fn list(engine: &Engine, ticket: Ticket, cell: &Cell<Actor>, index: &mut Vec<Rea
     if cell.is_done() {
         return;
     }
-    put_some(index, status_label(engine, Worker(0), ticket, &cell.status));
-    list_mails(engine, ticket, cell.outbox.as_slice(), index);
+    put_some(
+        index,
+        status_label(engine, Worker(0), ticket, &cell.status()),
+    );
+    list_mails(engine, ticket, cell.mails(), index);
 }
 
 // Lists the mails of a ticket, in ascending order.

@@ -1,10 +1,10 @@
-use Rattle.std.proofs.Common.{◌≡◌, ◌∙◌, ◌+◌, ◌-◌, ◌<◌, ◌++◌, Some, None, suc, length, map, drop, refl, sym, ap, append_assoc, arith}
+use Rattle.std.proofs.Common.{◌≡◌, ◌∙◌, ◌+◌, ◌-◌, ◌<◌, ◌++◌, Some, None, suc, length, map, drop, refl, sym, ap, subst, append_assoc, arith}
 use Rattle.std.specs.Prelude.{slice_get}
 use Rattle.std.proofs.lemmas.Option.{slice_get_read}
 use Rattle.wave_base.specs.Fold.{tickets_from}
 use Rattle.wave_labels.specs.Labels.{label_of}
 use Rattle.wave_effects.specs.Keeping.{kept_of}
-use Rattle.wave_machine.specs.inner.Asking.{by_ticket, cell_labels}
+use Rattle.wave_machine.specs.inner.Asking.{by_ticket, cell_labels, stops_labels}
 use Rattle.wave_machine.proofs.ListingParts.{cell_stops}
 use Rattle.wave_machine.proofs.Skipping.{done_skipped, next_of}
 use Rattle.wave_machine.proofs.enabled.ask_all_stops.Goals as goal
@@ -26,7 +26,9 @@ loop-i-preserved c =
     let at : slice_get m.cells i ≡ Some cell = slice_get_read m.cells _ i cell refl within c.index.ensures in
     let more : i + 1 ≡ suc i = omega arith in
     let before = map label_of c.loop-i.labels.items in
-    (λ k. c.in_ok-ask_stops.ensures k ++ by_ticket f (m.first + more k) (drop (more k) m.cells))
+    let asked : map label_of c.ask_stops.new.labels.items ≡ before ++ stops_labels m.stores m.hands ws (m.first + i) cell.status =
+    subst (λ st. map label_of c.ask_stops.new.labels.items ≡ before ++ stops_labels m.stores m.hands ws (m.first + i) st) c.status.ensures c.in_ok-ask_stops.ensures in
+    (λ k. asked k ++ by_ticket f (m.first + more k) (drop (more k) m.cells))
     ∙ append_assoc before _ (by_ticket f (m.first + suc i) (drop (suc i) m.cells))
     ∙ ap (λ r. before ++ (r ++ by_ticket f (m.first + suc i) (drop (suc i) m.cells))) (cell_stops m ws (m.first + i) cell)
     ∙ ap (λ xs. before ++ xs) (sym (next_of f m.first i m.cells cell at))

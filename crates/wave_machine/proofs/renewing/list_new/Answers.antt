@@ -17,11 +17,11 @@ use Rattle.wave_machine.proofs.renewing.list_new.Goals as goal
 pub list_mails-requires-clause-room : goal.list_mails-requires-clause-room
 list_mails-requires-clause-room c =
     let m = kept_of c.args.engine.now in
-    let mails = c.as_slice-mails.result.now in
+    let mails = c.mails-mails.result.now in
     let f = c.first_above.result in
     let rest = ap length (rest_is mails f) in
     let some = length-drop f mails in
-    let same = ap length c.as_slice-mails.ensures.mails in
+    let same = ap length c.mails-mails.ensures.mails in
     let few = mails_share c.in-Some.cell.now in
     let is = ap share_by (sym c.in-Some.ensures) in
     let less = share_within m c.args.ticket.0 in
@@ -30,9 +30,9 @@ list_mails-requires-clause-room c =
 
 pub list_mails-requires-clause-ordered : goal.list_mails-requires-clause-ordered
 list_mails-requires-clause-ordered c =
-    let mails = c.as_slice-mails.result.now in
+    let mails = c.mails-mails.result.now in
     let f = c.first_above.result in
-    subst (λ ms. IsStrictlySortedBy nat_cmp (keys_of ms)) (sym (rest_is mails f)) (sorted_drop f mails c.as_slice-mails.ensures.ordered)
+    subst (λ ms. IsStrictlySortedBy nat_cmp (keys_of ms)) (sym (rest_is mails f)) (sorted_drop f mails c.mails-mails.ensures.ordered)
 
 pub returns-in-Some-clause-lists : goal.returns-in-Some-clause-lists
 returns-in-Some-clause-lists c =
@@ -43,13 +43,13 @@ returns-in-Some-clause-lists c =
     let at = sym c.in-Some.ensures in
     let there = cell_there m t cell at in
     let box = cell.outbox in
-    let mails = c.as_slice-mails.result.now in
+    let mails = c.mails-mails.result.now in
     let f = c.first_above.result in
-    let same = c.as_slice-mails.ensures.mails in
+    let same = c.mails-mails.ensures.mails in
     let numbered = c.requires.listable.numbered (t - m.first) cell there.at in
-    let sorted : IsStrictlySortedBy nat_cmp (keys_of box.mails) = subst (λ ms. IsStrictlySortedBy nat_cmp (keys_of ms)) same c.as_slice-mails.ensures.ordered in
+    let sorted : IsStrictlySortedBy nat_cmp (keys_of box.mails) = subst (λ ms. IsStrictlySortedBy nat_cmp (keys_of ms)) same c.mails-mails.ensures.ordered in
     let above : AllByRecursion (λ e. n < e.0) (drop f box.mails) = subst (λ ms. AllByRecursion (λ e. n < e.0) (drop f ms)) same c.first_above.ensures.above in
-    let below : AllByRecursion (λ e. e.0 ≤ n) (take f box.mails) = subst (λ ms. AllByRecursion (λ e. e.0 ≤ n) (take f ms)) same (c.first_above.ensures.below c.as_slice-mails.ensures.ordered) in
+    let below : AllByRecursion (λ e. e.0 ≤ n) (take f box.mails) = subst (λ ms. AllByRecursion (λ e. e.0 ≤ n) (take f ms)) same (c.first_above.ensures.below c.mails-mails.ensures.ordered) in
     let old = c.args.index.now.items in
     let new = c.list_mails.new.index.items in
     let labels = flat_map (λ e. mail_labels m.stores 0 t e.0 (Some e.1)) (drop f mails) in
@@ -64,11 +64,11 @@ returns-in-Some-clause-lists c =
 pub returns-in-Some-clause-len : goal.returns-in-Some-clause-len
 returns-in-Some-clause-len c =
     let m = kept_of c.args.engine.now in
-    let mails = c.as_slice-mails.result.now in
+    let mails = c.mails-mails.result.now in
     let f = c.first_above.result in
     let rest = ap length (rest_is mails f) in
     let some = length-drop f mails in
-    let same = ap length c.as_slice-mails.ensures.mails in
+    let same = ap length c.mails-mails.ensures.mails in
     let few = mails_share c.in-Some.cell.now in
     let is = ap share_by (sym c.in-Some.ensures) in
     let less = share_within m c.args.ticket.0 in

@@ -46,7 +46,7 @@ asked_in-number-requires c =
     let i = t - m.first in
     let place : m.first + i ≡ t = omega (arith, at.low) in
     let within : i < length m.cells = omega (arith, at.low, at.within) in
-    ap (λ o. is_some (asked_in o)) c.get.ensures ∙ finds.asks i c.index_mut-cell.result.now place (slice_get_read m.cells _ i c.index_mut-cell.result.now refl within c.index_mut-cell.ensures.value)
+    ap (λ o. is_some (asked_in o)) c.mail.ensures ∙ finds.asks i c.index_mut-cell.result.now place (slice_get_read m.cells _ i c.index_mut-cell.result.now refl within c.index_mut-cell.ensures.value)
 
 pub returns-clause-takes : goal.returns-clause-takes
 returns-clause-takes c = λ w.
@@ -65,8 +65,8 @@ returns-clause-takes c = λ w.
     let env : Envelope = record { to = c.args.to; path = c.args.path; letter = letter.Enter c.asked_in-number.result.0 c.number_in-followed.result c.asked_in-number.result.1 } in
     let turns : Redirects cell c.redirect.new.self k env = record { desk = c.redirect.ensures.desk; actor = c.redirect.ensures.actor } in
     let old = some_is (mail_in cell.outbox.mails k) (at.mailed i cell place there) in
-    let numbers = ap (λ o. option_map (λ (a : Ask). a.number) (asked_in o)) (sym c.get.ensures) ∙ c.asked_in-number.ensures.number in
-    let peeks = ap (λ o. option_map (λ (a : Ask). a.peek) (asked_in o)) (sym c.get.ensures) ∙ c.asked_in-number.ensures.peek in
+    let numbers = ap (λ o. option_map (λ (a : Ask). a.number) (asked_in o)) (sym c.mail.ensures) ∙ c.asked_in-number.ensures.number in
+    let peeks = ap (λ o. option_map (λ (a : Ask). a.peek) (asked_in o)) (sym c.mail.ensures) ∙ c.asked_in-number.ensures.peek in
     let follows = ap number_in (sym c.find.ensures) ∙ c.number_in-followed.ensures in
     pass_taken c.states_are_known.ensures m t k c.args.path w c.args.host.0 c.args.to.0 i cell c.redirect.new.self store old.0 env place there turns here old.1
     (goes_to c.states_are_known.ensures m t k c.args.path w c.args.host.0 c.args.to.0 (mail_in cell.outbox.mails k) old.0 store c.asked_in-number.result.0 c.number_in-followed.result c.asked_in-number.result.1 c.args.to refl old.1 numbers peeks (finds.away store here) follows)

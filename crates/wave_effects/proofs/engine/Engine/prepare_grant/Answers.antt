@@ -7,7 +7,7 @@ use Rattle.wave_effects.specs.Keeping.{kept_of}
 use Rattle.wave_effects.proofs.Calm.{with_cell, with_store}
 use Rattle.wave_effects.proofs.Freer.{cell_keeps, grant_room, keeps_on, on_ok, same_but_entry, store_keeps}
 use Rattle.wave_effects.proofs.StoreParts.{Writes}
-use Rattle.wave_effects.proofs.Taking.{grant_placed}
+use Rattle.wave_effects.proofs.Taking.{grant_goes_on, grant_placed}
 use Rattle.wave_effects.proofs.Unasked.{asks_after, cell_asks, entry_answers, store_asks}
 use Rattle.wave_effects.proofs.engine.Engine.prepare_grant.Goals as goal
 
@@ -19,6 +19,15 @@ index_mut-cell-requires c =
     let at = grant_placed c.states_are_known.ensures (kept_of c.args.self.now) c.args.ticket.0 c.args.path.now c.requires.0 c.args.host.0 c.requires.1 in
     let within : c.args.ticket.0 - c.args.self.now.first < length c.args.self.now.cells.items = omega (arith, at.low, at.within) in
     search (rules, within)
+
+pub reserve-requires : goal.reserve-requires
+reserve-requires c =
+    let m = kept_of c.args.self.now in
+    let at = grant_placed c.states_are_known.ensures m c.args.ticket.0 c.args.path.now c.requires.0 c.args.host.0 c.requires.1 in
+    let i = c.args.ticket.0 - m.first in
+    let place : m.first + i ≡ c.args.ticket.0 = omega (arith, at.low) in
+    let within : i < length m.cells = omega (arith, at.low, at.within) in
+    grant_goes_on c.states_are_known.ensures m c.args.ticket.0 c.args.path.now c.requires.0 c.args.host.0 c.requires.1 i c.index_mut-cell.result.now place (slice_get_read m.cells _ i c.index_mut-cell.result.now refl within c.index_mut-cell.ensures.value)
 
 pub index_mut-store-requires : goal.index_mut-store-requires
 index_mut-store-requires c =

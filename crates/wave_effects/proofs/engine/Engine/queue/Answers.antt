@@ -10,7 +10,7 @@ use Rattle.wave_states.specs.States.{Ask}
 use Rattle.wave_effects.specs.Keeping.{kept_of}
 use Rattle.wave_effects.specs.inner.Asks.{asked_in}
 use Rattle.wave_effects.proofs.CellParts.{TakesAndWaits}
-use Rattle.wave_effects.proofs.Queueing.{queue_placed, queue_taken}
+use Rattle.wave_effects.proofs.Queueing.{queue_goes_on, queue_placed, queue_taken}
 use Rattle.wave_effects.proofs.Calm.{with_cell, with_store}
 use Rattle.wave_effects.proofs.Framing.{moved_both, written_apart}
 use Rattle.wave_effects.proofs.StoreParts.{Writes}
@@ -33,7 +33,18 @@ asked_in-number-requires c =
     let i = t - m.first in
     let place : m.first + i ≡ t = omega (arith, at.low) in
     let within : i < length m.cells = omega (arith, at.low, at.within) in
-    ap (λ o. is_some (asked_in o)) c.get.ensures ∙ at.asks i c.index_mut-cell.result.now place (slice_get_read m.cells _ i c.index_mut-cell.result.now refl within c.index_mut-cell.ensures.value)
+    ap (λ o. is_some (asked_in o)) c.mail.ensures ∙ at.asks i c.index_mut-cell.result.now place (slice_get_read m.cells _ i c.index_mut-cell.result.now refl within c.index_mut-cell.ensures.value)
+
+pub set_status-requires : goal.set_status-requires
+set_status-requires c =
+    let m = kept_of c.args.self.now in
+    let t = c.args.mail.ticket.0 in
+    let at = queue_placed c.states_are_known.ensures m t c.args.mail.number c.args.path c.requires.enabled.0 c.args.host.0 c.requires.enabled.1 in
+    let i = t - m.first in
+    let place : m.first + i ≡ t = omega (arith, at.low) in
+    let within : i < length m.cells = omega (arith, at.low, at.within) in
+    let there : slice_get m.cells i ≡ Some c.index_mut-cell.result.now = slice_get_read m.cells _ i c.index_mut-cell.result.now refl within c.index_mut-cell.ensures.value in
+    ap is_over c.take_mail.ensures.status ∙ queue_goes_on c.states_are_known.ensures m t c.args.mail.number c.args.path c.requires.enabled.0 c.args.host.0 c.requires.enabled.1 i c.index_mut-cell.result.now place there
 
 pub index_mut-store-requires : goal.index_mut-store-requires
 index_mut-store-requires c =
@@ -64,8 +75,8 @@ returns-clause-takes c = λ w.
       desk = λ d over h. c.set_status.ensures.desk (with_mail d k None) (ap is_over c.take_mail.ensures.status ∙ over) (c.take_mail.ensures.desk d h);
       actor = c.set_status.ensures.actor ∙ c.take_mail.ensures.actor;
     } in
-    let numbers = ap (λ o. option_map (λ (a : Ask). a.number) (asked_in o)) (sym c.get.ensures) ∙ c.asked_in-number.ensures.number in
-    let peeks = ap (λ o. option_map (λ (a : Ask). a.peek) (asked_in o)) (sym c.get.ensures) ∙ c.asked_in-number.ensures.peek in
+    let numbers = ap (λ o. option_map (λ (a : Ask). a.number) (asked_in o)) (sym c.mail.ensures) ∙ c.asked_in-number.ensures.number in
+    let peeks = ap (λ o. option_map (λ (a : Ask). a.peek) (asked_in o)) (sym c.mail.ensures) ∙ c.asked_in-number.ensures.peek in
     queue_taken c.states_are_known.ensures m t k c.args.path w c.args.host.0 i cell c.set_status.new.self store c.line_up.new.store c.args.born c.asked_in-number.result.0 c.asked_in-number.result.1 place there takes here c.requires.part numbers peeks c.line_up.ensures
 
 pub returns-clause-moves : goal.returns-clause-moves

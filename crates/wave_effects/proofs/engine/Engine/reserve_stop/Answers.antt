@@ -9,6 +9,13 @@ use Rattle.wave_effects.proofs.Roomy.{cell_roomy, store_roomy, commits_roomy}
 use Rattle.wave_effects.proofs.Freer.{set_there}
 use Rattle.wave_effects.proofs.engine.Engine.reserve_stop.Goals as goal
 
+pub reserve-requires : goal.reserve-requires
+reserve-requires c =
+    let m = kept_of c.args.self.now in
+    let i = c.args.ticket.0 - m.first in
+    let within : i < length m.cells = omega (arith, c.requires.low, c.requires.within) in
+    c.requires.goes_on c.index_mut-cell.result.now (slice_get_read m.cells _ i c.index_mut-cell.result.now refl within c.index_mut-cell.ensures.value)
+
 pub returns-in_err-reserve-clause-same : goal.returns-in_err-reserve-clause-same
 returns-in_err-reserve-clause-same c =
     let m = kept_of c.args.self.now in
@@ -37,7 +44,7 @@ pub returns-clause-room : goal.returns-clause-room
 returns-clause-room c =
     let m = kept_of c.args.self.now in
     let i = c.args.ticket.0 - m.first in
-    let held : length c.reserve.new.self.held.holds ≡ length c.as_slice.result.now = ap length (c.reserve.ensures.same.held ∙ sym c.as_slice.ensures.holds) in
+    let held : length c.reserve.new.self.held.holds ≡ length c.holds.result.now = ap length (c.reserve.ensures.same.held ∙ sym c.holds.ensures.holds) in
     let mails : 1 + length c.reserve.new.self.held.holds ≤ c.reserve.new.self.outbox.room = omega (arith, held, c.in_ok-reserve.ensures.mails) in
     IfOk-weaker c.reserve-3.result _ _
     (λ u results. record {

@@ -21,6 +21,15 @@ index_mut-cell-requires c =
     let within : c.args.ticket.0 - c.args.self.now.first < length c.args.self.now.cells.items = omega (arith, at.low, at.within) in
     search (rules, within)
 
+pub start-requires : goal.start-requires
+start-requires c =
+    let m = kept_of c.args.self.now in
+    let at = start_placed c.states_are_known.ensures m c.args.ticket.0 c.args.path c.args.worker.0 c.args.host.0 c.requires.enabled in
+    let i = c.args.ticket.0 - m.first in
+    let place : m.first + i ≡ c.args.ticket.0 = omega (arith, at.low) in
+    let within : i < length m.cells = omega (arith, at.low, at.within) in
+    at.on i c.index_mut-cell.result.now place (slice_get_read m.cells _ i c.index_mut-cell.result.now refl within c.index_mut-cell.ensures.value)
+
 pub unwrap-actor-requires : goal.unwrap-actor-requires
 unwrap-actor-requires c =
     let m = kept_of c.args.self.now in

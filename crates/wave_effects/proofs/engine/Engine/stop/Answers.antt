@@ -12,7 +12,7 @@ use Rattle.wave_effects.specs.Actors.{peeks_now}
 use Rattle.wave_effects.specs.Keeping.{kept_of}
 use Rattle.wave_effects.specs.Machines.{Kept}
 use Rattle.wave_effects.proofs.Depth.{near}
-use Rattle.wave_effects.proofs.Halting.{above, cell_at, counted, enabled, found, fresh, numbered, worker_at}
+use Rattle.wave_effects.proofs.Halting.{above, cell_at, counted, enabled, found, fresh, goes_on, numbered, worker_at}
 use Rattle.wave_effects.proofs.Roomy.{keeps, stopping_still}
 use Rattle.wave_effects.proofs.Stopping.{Adds, has_mail, leaves_as, mapped_some, placed_at, still_has, stop_taken, stops_still}
 use Rattle.wave_effects.proofs.Framing.{moved_both, same_at}
@@ -35,7 +35,12 @@ prepare_stop-requires-clause-place c =
     let on = c.requires in
     let at = cell_at c.states_are_known.ensures c.segments_are_known.ensures m c.args.lease c.args.pause on.start on.state on.stands on.back in
     let place = placed_at c.args.lease.path m.stores c.unwrap-host.result.0 (ap (position (has c.args.lease.path)) (sym c.as_slice.ensures.value) ∙ sym c.place_of.ensures ∙ ap (option_map (λ h. h.0)) c.unwrap-host.ensures) in
-    record { low = at.0; within = at.1; host_in = slice_get_within m.stores c.unwrap-host.result.0 place.0 place.1 }
+    record {
+      low = at.0;
+      within = at.1;
+      host_in = slice_get_within m.stores c.unwrap-host.result.0 place.0 place.1;
+      goes_on = λ x there. goes_on c.states_are_known.ensures c.segments_are_known.ensures m c.args.lease c.args.pause on.start on.state on.stands on.back (c.args.lease.ticket.0 - m.first) x (omega (arith, at.0)) there;
+    }
 
 pub returns-in-Err-clause-keeps : goal.returns-in-Err-clause-keeps
 returns-in-Err-clause-keeps c = keeps (kept_of c.args.self.now) (kept_of c.prepare_stop.new.self) c.prepare_stop.ensures.same
@@ -109,6 +114,16 @@ leave-result-requires-clause-room c =
     let at = cell_at c.states_are_known.ensures c.segments_are_known.ensures m1 c.args.lease c.args.pause on.start on.state on.stands on.back in
     let within : i < length m1.cells = omega (arith, at.0, at.1) in
     c.in-Ok.ensures.room.mails x (slice_get_read m1.cells _ i x refl within c.index_mut-cell.ensures.value)
+
+pub leave-result-requires-clause-goes_on : goal.leave-result-requires-clause-goes_on
+leave-result-requires-clause-goes_on c =
+    let m1 : Kept = kept_of c.prepare_stop.new.self in
+    let i = c.args.lease.ticket.0 - m1.first in
+    let x = c.index_mut-cell.result.now in
+    let on = stopping_still (kept_of c.args.self.now) m1 c.prepare_stop.ensures.same c.args.lease c.args.pause c.requires in
+    let at = cell_at c.states_are_known.ensures c.segments_are_known.ensures m1 c.args.lease c.args.pause on.start on.state on.stands on.back in
+    let within : i < length m1.cells = omega (arith, at.0, at.1) in
+    goes_on c.states_are_known.ensures c.segments_are_known.ensures m1 c.args.lease c.args.pause on.start on.state on.stands on.back i x (omega (arith, at.0)) (slice_get_read m1.cells _ i x refl within c.index_mut-cell.ensures.value)
 
 pub leave-result-requires-clause-numbers : goal.leave-result-requires-clause-numbers
 leave-result-requires-clause-numbers c =

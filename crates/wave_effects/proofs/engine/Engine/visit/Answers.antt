@@ -7,7 +7,7 @@ use Rattle.wave_states.specs.Labels.{Visit}
 use Rattle.event_cells.specs.Cells.{is_over, with_mail}
 use Rattle.wave_effects.specs.Keeping.{kept_of}
 use Rattle.wave_effects.proofs.CellParts.{TakesAndWaits}
-use Rattle.wave_effects.proofs.Taking.{visit_placed, visit_taken}
+use Rattle.wave_effects.proofs.Taking.{visit_goes_on, visit_placed, visit_taken}
 use Rattle.wave_effects.proofs.Calm.{with_cell}
 use Rattle.wave_effects.proofs.Framing.{moved_cell}
 use Rattle.wave_effects.proofs.engine.Engine.visit.Goals as goal
@@ -20,6 +20,17 @@ index_mut-cell-requires c =
     let at = visit_placed c.states_are_known.ensures (kept_of c.args.self.now) c.args.mail.ticket.0 c.args.mail.number c.args.path c.requires.0 c.requires.1 c.requires.2 in
     let within : c.args.mail.ticket.0 - c.args.self.now.first < length c.args.self.now.cells.items = omega (arith, at.0, at.1) in
     search (rules, within)
+
+pub set_status-requires : goal.set_status-requires
+set_status-requires c =
+    let m = kept_of c.args.self.now in
+    let t = c.args.mail.ticket.0 in
+    let at = visit_placed c.states_are_known.ensures m t c.args.mail.number c.args.path c.requires.0 c.requires.1 c.requires.2 in
+    let i = t - m.first in
+    let place : m.first + i ≡ t = omega (arith, at.0) in
+    let within : i < length m.cells = omega (arith, at.0, at.1) in
+    let there : slice_get m.cells i ≡ Some c.index_mut-cell.result.now = slice_get_read m.cells _ i c.index_mut-cell.result.now refl within c.index_mut-cell.ensures.value in
+    ap is_over c.take_mail.ensures.status ∙ visit_goes_on c.states_are_known.ensures m t c.args.mail.number c.args.path c.requires.0 c.requires.1 c.requires.2 i c.index_mut-cell.result.now place there
 
 pub returns-clause-takes : goal.returns-clause-takes
 returns-clause-takes c = λ w host.

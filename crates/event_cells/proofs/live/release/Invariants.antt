@@ -2,7 +2,7 @@ use Rattle.std.proofs.Common.{◌≤◌, ◌+◌, length}
 use Rattle.std.specs.Prelude.{option_copied}
 use Rattle.event_cells.specs.inner.Releases.{keeps}
 use Rattle.event_cells.proofs.Desks.{Sends}
-use Rattle.event_cells.proofs.cell.release.Given as goal
+use Rattle.event_cells.proofs.live.release.Given as goal
 
 abbrev pub invariant-loop-path : goal.invariant-loop-path
 invariant-loop-path l = record {

@@ -2,8 +2,8 @@ use Rattle.std.proofs.Common.{◌≤◌, ◌+◌, length, ◌∙◌, sym, subst,
 use Rattle.std.specs.Prelude.{option_copied}
 use Rattle.event_cells.specs.inner.Releases.{keeps}
 use Rattle.event_cells.proofs.Desks.{Sends, sends_kept, sends_more}
-use Rattle.event_cells.proofs.cell.release.Goals as goal
-use Rattle.event_cells.proofs.cell.release.Goals.{then-not-keeps, else-not-keeps}
+use Rattle.event_cells.proofs.live.release.Goals as goal
+use Rattle.event_cells.proofs.live.release.Goals.{then-not-keeps, else-not-keeps}
 
 pub loop-path-preserved : goal.loop-path-preserved
 loop-path-preserved c =
