@@ -264,7 +264,11 @@ impl<'p> Listed<'p> {
         let share = share_at(&self.engine, ticket_of(&label.act));
         self.weight = self.weight - seen.share + share;
         let whole = relist_after(&self.engine, label, seen, self.done, &mut self.index);
-        renew_head(&self.engine, whole || is_on_head(&label.act), &mut self.index);
+        renew_head(
+            &self.engine,
+            whole || is_on_head(&label.act),
+            &mut self.index,
+        );
         self.done = count_done(&self.engine, self.done);
     }
 }
