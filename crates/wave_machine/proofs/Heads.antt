@@ -71,9 +71,9 @@ left_is true m = no_head
 left_is false m = head_is m
 
 -- where all was not listed anew and the label is none that changes it, what is left is what the head asks for
-pub still : (whole on : Bool) (m m' : Kept) (l : Label) → on ≡ on_head l.act → {more : ℕ} → Moves m m' l more → (whole || on) ≡ false → head_left whole (head_in m) ≡ head_in m'
-still true on m m' l is moves off = absurd (true≢false off)
-still false on m m' l is moves off =
+pub still : (whole changed : Bool) (m m' : Kept) (l : Label) → changed ≡ (whole || on_head l.act) → {more : ℕ} → Moves m m' l more → changed ≡ false → head_left whole (head_in m) ≡ head_in m'
+still true changed m m' l is moves off = absurd (true≢false (sym is ∙ off))
+still false changed m m' l is moves off =
     let same = moves.head (sym is ∙ off) in
     let ticket : m.first + length m.settled.results ≡ m'.first + length m'.settled.results = λ i. sym moves.others.first i + sym same.settled i in
     λ i. label_at 0 0 (option_map (λ (t : Ticket). Admit t.0) (sym same.next i)) ++ label_at 0 0 (option_map (λ (r : EventResult). Commit (ticket i)) (sym same.ready i))

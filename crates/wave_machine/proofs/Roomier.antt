@@ -13,7 +13,7 @@ same_self m = record {
   committed = refl;
   results = refl;
   as_many_cells = refl;
-  cells = λ i c e. record { cell = c; there = e; same = record { actor = refl; held = refl; sent = refl; mails = refl; status = refl; kind = refl }; room = omega arith };
+  cells = λ i c e. record { cell = c; there = e; same = record { actor = refl; held = refl; sent = refl; mails = refl; status = refl }; room = omega arith };
   as_many_stores = refl;
   stores = λ h s e. record { stores = s; there = e; store = refl; gone = refl; room = omega arith };
 }

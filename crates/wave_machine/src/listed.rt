@@ -1,8 +1,8 @@
 //! An engine with the list of what can be done, which is kept from label to label.
 
-ghost use Rattle.std.specs.Prelude.{◌≡◌, ◌↔◌, ◌≤◌, ◌+◌, ℕ, Some, true, length, slice_get, IsTrue, IfOk, IfErr, OnOk, OnErr};
+ghost use Rattle.std.specs.Prelude.{◌≡◌, ◌↔◌, ◌≤◌, ◌+◌, ◌||◌, ℕ, Some, true, length, slice_get, IsTrue, IfOk, IfErr, OnOk, OnErr};
 ghost use Rattle.wave_base.specs.declared.start.Start as start;
-ghost use Rattle.wave_labels.specs.Labels.{label_of};
+ghost use Rattle.wave_labels.specs.Labels.{act_of, label_of};
 ghost use Rattle.script_fold.specs.Runs.{finished_of};
 ghost use Rattle.wave_states.specs.Begins.{start_state};
 ghost use Rattle.wave_states.specs.Runs as runs;
@@ -10,6 +10,7 @@ ghost use Rattle.plan_actors.specs.Calls.{code_ran};
 ghost use Rattle.plan_actors.specs.PlanActors.{plan_actors};
 ghost use Rattle.plan_actors.specs.Plans.{Fits, FitsStart, begin_in};
 ghost use Rattle.wave_effects.specs.Actors.{MayRun};
+ghost use Rattle.wave_effects.specs.Apart.{on_head};
 ghost use Rattle.wave_effects.specs.Keeping.{kept_of, place_in};
 ghost use Rattle.wave_effects.specs.Machines.{IsEnabled, Keeps, Kept, Stands, Takes, TheState};
 ghost use Rattle.wave_effects.specs.Plans.{plan_of};
@@ -30,7 +31,7 @@ use wave_base::{Finished, Host, OutOfMemory, Path, Pause, Start, Ticket};
 use wave_effects::{
     Engine, Lease, Plan, Prepared, Refused, heads_are_known, segments_are_known, states_are_known,
 };
-use wave_labels::Label;
+use wave_labels::{Act, Label};
 
 /// An engine, and in canonical order what can be done by an idle worker. A label changes what the status of its ticket asks for, its own
 /// mail and those that it sends, and what whoever is next in the line of its context asks for; where the context comes or goes, all
@@ -266,11 +267,18 @@ impl<'p> Listed<'p> {
         let whole = relist_after(&self.engine, label, seen, self.done, &mut self.index);
         renew_head(
             &self.engine,
-            whole || is_on_head(&label.act),
+            changes_head(whole, &label.act),
             &mut self.index,
         );
         self.done = count_done(&self.engine, self.done);
     }
+}
+
+// Whether what the head asks for is to be listed anew: all was, without it, or a label may have changed it.
+fn changes_head(whole: bool, act: &Act) -> bool
+    ensures { result ≡ (whole || on_head (act_of act.now)) }
+{
+    whole || is_on_head(act)
 }
 
 // The host that has a context; the first one where none has it.

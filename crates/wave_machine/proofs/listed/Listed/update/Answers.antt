@@ -63,7 +63,7 @@ returns-clause-listed c =
     let m = u.0 in
     let left = head_left c.relist_after-whole.result (head_in m) in
     record {
-      index = c.renew_head.ensures.parts left (by_part m' (asked_at m')) (left_is c.relist_after-whole.result m) (still c.relist_after-whole.result c.is_on_head.result m m' l c.is_on_head.ensures (u.2).taken.moves) (inner_part m')
+      index = c.renew_head.ensures.parts left (by_part m' (asked_at m')) (left_is c.relist_after-whole.result m) (still c.relist_after-whole.result c.changes_head.result m m' l c.changes_head.ensures (u.2).taken.moves) (inner_part m')
           (c.relist_after-whole.ensures.all m u.1 (head_in m) (u.2).taken (head_is m) (u.2).index);
       done = c.count_done-self.ensures;
       weight = w.keeps;
