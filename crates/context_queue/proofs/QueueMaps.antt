@@ -1,5 +1,5 @@
 -- The lemmas of tables at numbers.
-use Rattle.std.proofs.Common.{rules, ◌≡◌, ℕ, Bool, List, [], ◌∷◌, Option, Some, None, true, false, cond, length, sym, ap, ◌∙◌, arith, refl}
+use Rattle.std.proofs.Common.{rules, ◌≡◌, ℕ, Bool, ◌||◌, List, [], ◌∷◌, Option, Some, None, true, false, cond, length, sym, ap, ◌∙◌, arith, refl}
 use Rattle.std.specs.Prelude.{nat_eq}
 use Rattle.std.specs.Ordering.{nat_cmp}
 use Rattle.std.specs.Cmp.{unsigned_ties}
@@ -7,6 +7,7 @@ use Rattle.std.specs.Map.{lookup, keys_of}
 use Rattle.std.specs.List.{list_any, IsDistinct}
 use Rattle.std.specs.FinMap as table
 use Rattle.std.specs.FinSet as set
+use Rattle.std.proofs.lemmas.Bool.{eqb-true}
 use Rattle.std.proofs.lemmas.Cmp.{nat_cmp_total, nat_eq_equiv}
 use Rattle.context_queue.proofs.MapLemmas as m
 
@@ -73,3 +74,65 @@ none_removed k = removed [] [] k (λ q. no_more (nat_eq k q))
 -- a table that counts none has none
 pub none_got : {X : Type 0} (m : table.FinMap nat_cmp X) (q : ℕ) → table.len m ≡ 0 → None ≡ table.get m q
 none_got m q e = sym (ap (λ n. table.get n q) (table.empty_of_len m e) ∙ table.get-empty nat_cmp q)
+
+-- whether a number is another one
+pub is_own : (k n : ℕ) → k ≡ n → nat_eq k n ≡ true
+is_own k n e = ap (nat_eq k) (sym e) ∙ nat_eq_equiv.refl k
+
+pub is_other : (k n : ℕ) → (k ≡ n → ⊥) → nat_eq k n ≡ false
+is_other k n h = by_test (nat_eq k n) refl
+  where
+    by_test : (b : Bool) → nat_eq k n ≡ b → nat_eq k n ≡ false
+    by_test true e = absurd (h (eqb-true k n e))
+    by_test false e = e
+
+-- one entry alone: what it has, and what is left of it
+pub one_distinct : (n : ℕ) → IsDistinct nat_eq (n ∷ [])
+unfolding IsDistinct
+one_distinct n = (tt, tt)
+
+module _ {X : Type 0} (k n : ℕ) (v : X) where
+  abbrev if_own : Bool → Option X
+  if_own b = cond b (Some v) None
+
+  pub one_got : nat_eq k n ≡ true → Some v ≡ table.get (table.from_entries {R = nat_cmp} ((n, v) ∷ [])) k
+  one_got e = sym (get_is_lookup k ((n, v) ∷ []) ∙ ap if_own e)
+
+  pub other_got : nat_eq k n ≡ false → None ≡ table.get (table.from_entries {R = nat_cmp} ((n, v) ∷ [])) k
+  other_got e = sym (get_is_lookup k ((n, v) ∷ []) ∙ ap if_own e)
+
+  pub one_removed : nat_eq k n ≡ true → table.from_entries {X = X} {R = nat_cmp} [] ≡ table.remove (table.from_entries ((n, v) ∷ [])) k
+  one_removed e = removed ((n, v) ∷ []) [] k (λ q. by_key q (nat_eq k q) refl)
+    where
+      by_key : (q : ℕ) (b : Bool) → nat_eq k q ≡ b → None ≡ cond b None (if_own (nat_eq q n))
+      by_key q true h = refl
+      by_key q false h = sym (ap if_own (ap (nat_eq q) (sym (eqb-true k n e)) ∙ nat_eq_equiv.symm q k ∙ h))
+
+  pub other_removed : nat_eq k n ≡ false → table.from_entries {R = nat_cmp} ((n, v) ∷ []) ≡ table.remove (table.from_entries ((n, v) ∷ [])) k
+  other_removed e = removed ((n, v) ∷ []) ((n, v) ∷ []) k (λ q. by_key q (nat_eq k q) refl)
+    where
+      by_key : (q : ℕ) (b : Bool) → nat_eq k q ≡ b → if_own (nat_eq q n) ≡ cond b None (if_own (nat_eq q n))
+      by_key q true h = ap if_own (ap (λ x. nat_eq x n) (sym (eqb-true k q h)) ∙ e)
+      by_key q false h = refl
+
+module _ (k n : ℕ) where
+  pub one_has : nat_eq k n ≡ set.contains (set.from_list {R = nat_cmp} (n ∷ [])) k
+  one_has = sym (contains_is_any k (n ∷ []) ∙ or_none (nat_eq k n))
+    where
+      or_none : (b : Bool) → (b || false) ≡ b
+      or_none true = refl
+      or_none false = refl
+
+  pub one_leaves : nat_eq k n ≡ true → set.from_list {R = nat_cmp} [] ≡ set.remove (set.from_list (n ∷ [])) k
+  one_leaves e = left (n ∷ []) [] k (λ q. by_key q (nat_eq k q) refl)
+    where
+      by_key : (q : ℕ) (b : Bool) → nat_eq k q ≡ b → false ≡ cond b false (nat_eq q n || false)
+      by_key q true h = refl
+      by_key q false h = sym (ap (λ c. c || false) (ap (nat_eq q) (sym (eqb-true k n e)) ∙ nat_eq_equiv.symm q k ∙ h))
+
+  pub other_leaves : nat_eq k n ≡ false → set.from_list {R = nat_cmp} (n ∷ []) ≡ set.remove (set.from_list (n ∷ [])) k
+  other_leaves e = left (n ∷ []) (n ∷ []) k (λ q. by_key q (nat_eq k q) refl)
+    where
+      by_key : (q : ℕ) (b : Bool) → nat_eq k q ≡ b → (nat_eq q n || false) ≡ cond b false (nat_eq q n || false)
+      by_key q true h = ap (λ c. c || false) (ap (λ x. nat_eq x n) (sym (eqb-true k q h)) ∙ e)
+      by_key q false h = refl

@@ -54,16 +54,24 @@ impl Entry {
         }
     }
 
-    /// Makes room for so many more that wait, and for as many more that only look as wait then.
+    /// Makes room for so many more that wait.
     pub fn reserve(&mut self, more: usize) -> Result<(), OutOfMemory>
         ensures waiting { OnOk result (more ≤ self.new.waiting.room) }
-        ensures peeks { OnOk result (map.len self.new.waiting.claims + more ≤ self.new.peeks.room) }
         ensures waiting_room { self.old.waiting.room ≤ self.new.waiting.room }
+        ensures peeks_room { self.new.peeks.room ≡ self.old.peeks.room }
+        ensures same { SameButRooms self.old self.new }
+    {
+        self.waiting.reserve(more)
+    }
+
+    /// Makes room for one more that only looks, so that whoever is next can be let in.
+    pub fn reserve_peek(&mut self) -> Result<(), OutOfMemory>
+        ensures peeks { OnOk result (1 ≤ self.new.peeks.room) }
+        ensures waiting_room { self.new.waiting.room ≡ self.old.waiting.room }
         ensures peeks_room { self.old.peeks.room ≤ self.new.peeks.room }
         ensures same { SameButRooms self.old self.new }
     {
-        self.waiting.reserve(more)?;
-        self.peeks.reserve(self.waiting.len() + more)
+        self.peeks.reserve(1)
     }
 
     /// A ticket joins the line under its entry number, which is above those served.

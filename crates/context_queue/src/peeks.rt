@@ -1,7 +1,9 @@
 //! Those who hold a context beside one another.
 
-ghost use Rattle.std.specs.Prelude.{◌≡◌, ◌≤◌, ◌+◌, OnOk};
+ghost use Rattle.std.specs.Prelude.{◌≡◌, ◌≤◌, ◌+◌, [], IfOk, OnOk};
 ghost use Rattle.std.specs.FinSet as set;
+ghost use Rattle.std.specs.HashSet.{spare};
+ghost use Rattle.std.specs.Ordering.{nat_cmp};
 ghost use Rattle.context_queue.specs.Lines.{is_nobody};
 
 use std::alloc::Global;
@@ -9,12 +11,23 @@ use std::collections::HashSet;
 use std::marker::Model;
 use wave_base::{OutOfMemory, Ticket};
 
-/// The tickets that hold a context together, since they only look. They lie in a box, which is made once there is room for one, so that
+/// The tickets that hold a context together, since they only look. One alone takes no memory; for more there is a table in a box, so that
 /// an entry stays small.
 #[derive(Drop)]
 pub struct Peeks {
     alloc: Global,
-    tickets: Option<Box<HashSet<u32>>>,
+    tickets: Tickets,
+}
+
+/// Those who look.
+#[derive(Drop)]
+pub(crate) enum Tickets {
+    /// Nobody.
+    Nobody,
+    /// One alone.
+    One(u32),
+    /// Those in the table.
+    Many(Box<HashSet<u32>>),
 }
 
 impl Model for Peeks {
@@ -35,7 +48,7 @@ impl Peeks {
     {
         Peeks {
             alloc,
-            tickets: None,
+            tickets: Tickets::Nobody,
         }
     }
 
@@ -44,8 +57,9 @@ impl Peeks {
         ensures { result ≡ set.contains self.now.tickets ticket.0 }
     {
         match &self.tickets {
-            Some(tickets) => tickets.contains(&ticket.0),
-            None => false,
+            Tickets::Nobody => false,
+            Tickets::One(own) => ticket.0 == *own,
+            Tickets::Many(tickets) => tickets.contains(&ticket.0),
         }
     }
 
@@ -54,8 +68,9 @@ impl Peeks {
         ensures { result ≡ is_nobody self.now.tickets }
     {
         match &self.tickets {
-            Some(tickets) => tickets.len() == 0,
-            None => true,
+            Tickets::Nobody => true,
+            Tickets::One(_) => false,
+            Tickets::Many(tickets) => tickets.len() == 0,
         }
     }
 
@@ -66,12 +81,18 @@ impl Peeks {
         ensures tickets { self.new.tickets ≡ self.old.tickets }
     {
         match &mut self.tickets {
-            Some(tickets) => tickets.reserve(more)?,
-            None => {
-                let mut tickets = HashSet::new(self.alloc);
-                tickets.reserve(more)?;
-                self.tickets = Some(Box::new(self.alloc, tickets)?);
+            Tickets::Nobody => {
+                if more > 1 {
+                    self.tickets = Tickets::Many(new_tickets(self.alloc, more)?);
+                }
             }
+            Tickets::One(own) => {
+                if more > 0 {
+                    let tickets = tickets_of(self.alloc, *own, more)?;
+                    self.tickets = Tickets::Many(tickets);
+                }
+            }
+            Tickets::Many(tickets) => tickets.reserve(more)?,
         }
         Ok(())
     }
@@ -83,10 +104,11 @@ impl Peeks {
         ensures room { self.old.room ≤ self.new.room + 1 }
     {
         match &mut self.tickets {
-            Some(tickets) => {
+            Tickets::Nobody => self.tickets = Tickets::One(ticket.0),
+            Tickets::One(_) => {}
+            Tickets::Many(tickets) => {
                 let _ = tickets.insert(ticket.0);
             }
-            None => {}
         }
     }
 
@@ -96,10 +118,15 @@ impl Peeks {
         ensures room { self.old.room ≤ self.new.room }
     {
         match &mut self.tickets {
-            Some(tickets) => {
+            Tickets::Nobody => {}
+            Tickets::One(own) => {
+                if ticket.0 == *own {
+                    self.tickets = Tickets::Nobody;
+                }
+            }
+            Tickets::Many(tickets) => {
                 let _ = tickets.remove(&ticket.0);
             }
-            None => {}
         }
     }
 
@@ -109,8 +136,30 @@ impl Peeks {
         ensures room { self.old.room ≤ self.new.room }
     {
         match &mut self.tickets {
-            Some(tickets) => tickets.clear(),
-            None => {}
+            Tickets::Nobody => {}
+            Tickets::One(_) => self.tickets = Tickets::Nobody,
+            Tickets::Many(tickets) => tickets.clear(),
         }
     }
+}
+
+// A box for tickets, with room for so many.
+fn new_tickets(alloc: Global, more: usize) -> Result<Box<HashSet<u32>>, OutOfMemory>
+    ensures none { IfOk result (λ b. b.value.keys ≡ []) }
+    ensures room { IfOk result (λ b. more ≤ spare b.value) }
+{
+    let mut tickets = HashSet::new(alloc);
+    tickets.reserve(more)?;
+    Ok(Box::new(alloc, tickets)?)
+}
+
+// A box for tickets with this one, and room for so many more.
+fn tickets_of(alloc: Global, own: u32, more: usize) -> Result<Box<HashSet<u32>>, OutOfMemory>
+    ensures one { IfOk result (λ b. set.from_list {R = nat_cmp} b.value.keys ≡ set.insert set.empty own) }
+    ensures room { IfOk result (λ b. more ≤ spare b.value) }
+{
+    let mut tickets = HashSet::new(alloc);
+    tickets.insert(own)?;
+    tickets.reserve(more)?;
+    Ok(Box::new(alloc, tickets)?)
 }

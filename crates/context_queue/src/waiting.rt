@@ -3,6 +3,7 @@
 ghost use Rattle.std.specs.Prelude.{◌≡◌, ◌≤◌, ◌<◌, ◌+◌, ◌^◌, [], IfOk, OnOk, IfSome};
 ghost use Rattle.std.specs.FinMap as map;
 ghost use Rattle.std.specs.HashMap.{spare};
+ghost use Rattle.std.specs.Ordering.{nat_cmp};
 
 use std::alloc::Global;
 use std::collections::HashMap;
@@ -18,12 +19,23 @@ pub struct Claim {
     pub peek: bool,
 }
 
-/// The line of a context: the tickets that wait, each under its entry number. They lie in a box, which is made once there is room for one,
-/// so that an entry stays small.
+/// The line of a context: the tickets that wait, each under its entry number. One that waits alone takes no memory; for more there is a
+/// table in a box, so that an entry stays small.
 #[derive(Drop)]
 pub struct Waiting {
     alloc: Global,
-    claims: Option<Box<HashMap<u64, Claim>>>,
+    claims: Claims,
+}
+
+/// Those who wait.
+#[derive(Drop)]
+pub(crate) enum Claims {
+    /// Nobody.
+    Nobody,
+    /// One alone, under this number.
+    One(u64, Claim),
+    /// Those in the table.
+    Many(Box<HashMap<u64, Claim>>),
 }
 
 impl Model for Waiting {
@@ -48,7 +60,7 @@ impl Waiting {
     {
         Waiting {
             alloc,
-            claims: None,
+            claims: Claims::Nobody,
         }
     }
 
@@ -57,8 +69,9 @@ impl Waiting {
         ensures { result ≡ map.len self.now.claims }
     {
         match &self.claims {
-            Some(claims) => claims.len(),
-            None => 0,
+            Claims::Nobody => 0,
+            Claims::One(_, _) => 1,
+            Claims::Many(claims) => claims.len(),
         }
     }
 
@@ -67,8 +80,9 @@ impl Waiting {
         ensures { result ≡ map.get self.now.claims number }
     {
         match &self.claims {
-            Some(claims) => claims.get(&number).copied(),
-            None => None,
+            Claims::Nobody => None,
+            Claims::One(own, claim) => { if number == *own { Some(*claim) } else { None } }
+            Claims::Many(claims) => claims.get(&number).copied(),
         }
     }
 
@@ -79,9 +93,6 @@ impl Waiting {
     {
         // none waits under 2^64
         let _ = &self.claims;
-        if self.len() == 0 {
-            return None;
-        }
         match number.checked_add(1) {
             Some(next) => self.get(next),
             None => None,
@@ -96,12 +107,22 @@ impl Waiting {
         ensures claims { self.new.claims ≡ self.old.claims }
     {
         match &mut self.claims {
-            Some(claims) => {
+            Claims::Nobody => {
+                if more > 1 {
+                    self.claims = Claims::Many(new_claims(self.alloc, more)?);
+                }
+            }
+            Claims::One(number, claim) => {
+                if more > 0 {
+                    let claims = claims_of(self.alloc, *number, *claim, more)?;
+                    self.claims = Claims::Many(claims);
+                }
+            }
+            Claims::Many(claims) => {
                 claims.reserve(more)?;
                 // a number, which counts those that are there and for how many more there is room
                 let _places = claims.capacity();
             }
-            None => self.claims = Some(new_claims(self.alloc, more)?),
         }
         Ok(())
     }
@@ -113,10 +134,11 @@ impl Waiting {
         ensures room { self.old.room ≤ self.new.room + 1 }
     {
         match &mut self.claims {
-            Some(claims) => {
+            Claims::Nobody => self.claims = Claims::One(number, claim),
+            Claims::One(_, _) => {}
+            Claims::Many(claims) => {
                 let _ = claims.insert(number, claim);
             }
-            None => {}
         }
     }
 
@@ -126,10 +148,15 @@ impl Waiting {
         ensures room { self.old.room ≤ self.new.room }
     {
         match &mut self.claims {
-            Some(claims) => {
+            Claims::Nobody => {}
+            Claims::One(own, _) => {
+                if number == *own {
+                    self.claims = Claims::Nobody;
+                }
+            }
+            Claims::Many(claims) => {
                 let _ = claims.remove(&number);
             }
-            None => {}
         }
     }
 }
@@ -141,5 +168,24 @@ fn new_claims(alloc: Global, more: usize) -> Result<Box<HashMap<u64, Claim>>, Ou
 {
     let mut claims = HashMap::new(alloc);
     claims.reserve(more)?;
+    Ok(Box::new(alloc, claims)?)
+}
+
+// A box for claims with this one, and room for so many more.
+fn claims_of(
+    alloc: Global,
+    number: u64,
+    claim: Claim,
+    more: usize,
+) -> Result<Box<HashMap<u64, Claim>>, OutOfMemory>
+    ensures one { IfOk result (λ b. map.from_entries {R = nat_cmp} b.value.entries ≡ map.insert map.empty number claim) }
+    ensures room { IfOk result (λ b. more ≤ spare b.value) }
+    ensures counted { OnOk result (1 + more < 2 ^ 64) }
+{
+    let mut claims = HashMap::new(alloc);
+    claims.insert(number, claim)?;
+    claims.reserve(more)?;
+    // a number, which counts those that are there and for how many more there is room
+    let _places = claims.capacity();
     Ok(Box::new(alloc, claims)?)
 }

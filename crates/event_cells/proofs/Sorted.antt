@@ -1,5 +1,5 @@
 -- What a search among pairs in the order of their keys found, and that the edits there keep them in order.
-use Rattle.std.proofs.Common.{◌≡◌, ◌∙◌, ℕ, zero, suc, ◌<◌, ◌≤◌, [], ◌∷◌, ◌++◌, List, Bool, true, false, cond, length, get_or, None, Some, Result, Ok, Err, refl, sym, ap, subst, arith}
+use Rattle.std.proofs.Common.{◌≡◌, ◌∙◌, ℕ, zero, suc, ◌<◌, ◌≤◌, [], ◌∷◌, ◌++◌, List, Bool, true, false, cond, length, get_or, slice_get, None, Some, Result, Ok, Err, refl, sym, ap, subst, arith}
 use Rattle.std.specs.BTreeMap.{is_at, insert_entry}
 use Rattle.std.specs.Cmp.{IsTotalOrder}
 use Rattle.std.specs.List.{AllByRecursion, filter, remove}
@@ -169,6 +169,36 @@ module _ {K : Type 0} (cmp : K → K → Ordering) (total : IsTotalOrder cmp) (e
     placed es (Err i) s b p =
         let q = p (non_decreasing es s) in
         gap es i s b (above es i b (λ j d m. q.0 j d (omega arith) m)) (at es i Greater (λ d m. q.1 i d (omega arith) m))
+
+    got : (es : List (K × X)) (i : ℕ) (d x : K × X) → slice_get es i ≡ Some x → get_or es i d ≡ x
+    got [] i d x h = cc
+    got (e ∷ es) zero d x h = cc
+    got (e ∷ es) (suc i) d x h = got es i d x h
+
+    -- a key above the last one is above all
+    above_last : (es : List (K × X)) (i : ℕ) (x : K × X) → IsStrictlySortedBy cmp (keys_of es) → suc i ≡ length es → slice_get es i ≡ Some x → cmp k x.0 ≡ Greater → AboveFirst es (length es)
+    unfolding IsStrictlySortedBy
+    above_last [] i x s l h g = absurd (omega arith)
+    above_last (e ∷ []) zero x s l h g = (ap (cmp k) (same_key e x h) ∙ g, tt)
+    above_last (e ∷ f ∷ es) zero x s l h g = absurd (omega arith)
+    above_last (e ∷ es) (suc i) x s l h g =
+        let less : cmp e.0 x.0 ≡ Less = subst (λ (y : K × X). cmp e.0 y.0 ≡ Less) (got es i e x h) (all_at (λ y. cmp e.0 y ≡ Less) es i e (omega arith) s.0) in
+        let more : cmp x.0 k ≡ Less = total.antisymm x.0 k ∙ ap ordering_reverse g in
+        (flipped cmp total exact k e.0 Less (total.trans e.0 x.0 k less more), above_last es i x s.1 (omega arith) h g)
+
+    nothing_at : (es : List (K × X)) → AnswersAt es (length es) Less
+    nothing_at [] = tt
+    nothing_at (e ∷ es) = nothing_at es
+
+    -- what the last key tells, where the key is not below it
+    pub placed_last : (es : List (K × X)) (i : ℕ) (x : K × X) → IsStrictlySortedBy cmp (keys_of es) → suc i ≡ length es → slice_get es i ≡ Some x → cmp k x.0 ≡ Equal → IsThere cmp es k i
+    placed_last es i x s l h g =
+        let hit : (d : K × X) → cmp (get_or es i d).0 k ≡ Equal = λ d. ap (λ (y : K × X). cmp y.0 k) (got es i d x h) ∙ total.antisymm x.0 k ∙ ap ordering_reverse g in
+        let within : i < length es = omega arith in
+        there es i within (above_hit es i s within hit) (at es i Equal (λ d _. hit d))
+
+    pub placed_behind : (es : List (K × X)) (i : ℕ) (x : K × X) → IsStrictlySortedBy cmp (keys_of es) → suc i ≡ length es → slice_get es i ≡ Some x → cmp k x.0 ≡ Greater → IsGap cmp es k (length es)
+    placed_behind es i x s l h g = gap es (length es) s (omega arith) (above_last es i x s l h g) (nothing_at es)
 
     module _ (v : X) where
       pub all_put : (P : K → Type 0) (es : List (K × X)) → P k → AllByRecursion P (keys_of es) → AllByRecursion P (keys_of (insert_entry cmp es k v))

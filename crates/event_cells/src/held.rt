@@ -11,6 +11,7 @@ ghost use Rattle.wave_base.specs.Paths.{is_above, path_cmp};
 ghost use Rattle.wave_states.specs.Desks.{not_at};
 
 use std::alloc::Global;
+use std::cmp::Ordering;
 use std::marker::Model;
 use wave_base::{Host, OutOfMemory, Path};
 
@@ -23,7 +24,7 @@ pub struct Hold {
     pub peek: bool,
 }
 
-/// The contexts that an event holds, in the order of their paths. A path is searched by halves.
+/// The contexts that an event holds, in the order of their paths. A path that does not belong at the end is searched by halves.
 #[derive(Drop)]
 pub struct Held {
     holds: Vec<(Path, Hold)>,
@@ -65,6 +66,20 @@ impl Held {
 
     // The place of a path, or the place where it belongs.
     fn place(&self, path: &Path) -> Result<usize, usize>
+        ensures { IsPlace path_cmp self.now.holds path.now result }
+    {
+        match self.holds.last() {
+            Some(last) => match path.cmp(&last.0) {
+                Ordering::Less => self.search(path),
+                Ordering::Equal => Ok(self.holds.len() - 1),
+                Ordering::Greater => Err(self.holds.len()),
+            },
+            None => Err(0),
+        }
+    }
+
+    // The same, searched by halves.
+    fn search(&self, path: &Path) -> Result<usize, usize>
         ensures { IsPlace path_cmp self.now.holds path.now result }
     {
         self.as_slice().binary_search_by_key(path, |hold| hold.0)

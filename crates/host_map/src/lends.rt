@@ -17,8 +17,8 @@ impl HostStore {
         ensures* writes_back { sem 𝓛 (Lends the_row entry_row self.entry result (with_entry self.old path.now)) }
         ensures value { map.get self.old.store path.now ≡ Some result.now }
     {
-        let place = place_in(&self.store, self.last, path).unwrap();
-        self.last = place;
+        let place = place_in(&self.store, self.near.at(path), path).unwrap();
+        self.near.note(path, place);
         &mut self.store[place]
     }
 }

@@ -12,7 +12,7 @@ use context_queue::Entry;
 use indexmap::IndexMap;
 use std::alloc::Global;
 use std::marker::Model;
-use wave_base::{Host, OutOfMemory, Path};
+use wave_base::{Guesses, Host, OutOfMemory, Path};
 
 /// Where a context went from here, as its how-manieth move.
 #[derive(Clone, Copy, Debug, PartialEq, Eq)]
@@ -40,8 +40,8 @@ pub struct HostStore {
     /// The entries that are here, by their paths.
     pub(crate) store: IndexMap<Path, Entry>,
     gone: IndexMap<Path, Mark>,
-    /// Where the entry stood that was lent last. It is looked for there first, since most look-ups are of one context several times.
-    pub(crate) last: usize,
+    /// Where entries stood that were lent or born last. They are looked for there first, since most look-ups are of a few contexts.
+    pub(crate) near: Guesses,
 }
 
 impl Model for HostStore {
@@ -65,7 +65,7 @@ impl HostStore {
         HostStore {
             store: IndexMap::new(alloc),
             gone: IndexMap::new(alloc),
-            last: 0,
+            near: Guesses::new(),
         }
     }
 
@@ -96,14 +96,14 @@ impl HostStore {
     pub fn has(&self, path: &Path) -> bool
         ensures { result ≡ has path.now self.now }
     {
-        place_in(&self.store, self.last, path).is_some()
+        place_in(&self.store, self.near.at(path), path).is_some()
     }
 
     /// The entry of a context.
     pub fn entry(&self, path: &Path) -> Option<&Entry>
         ensures { option_copied result ≡ map.get self.now.store path.now }
     {
-        match place_in(&self.store, self.last, path) {
+        match place_in(&self.store, self.near.at(path), path) {
             Some(place) => Some(&self.store[place]),
             None => None,
         }
@@ -153,6 +153,7 @@ impl HostStore {
         ensures path_room { self.old.path_room ≤ self.new.path_room + 1 }
         ensures mark_room { self.new.mark_room ≡ self.old.mark_room }
     {
+        self.near.note(&path, self.store.len());
         let _ = self.store.insert(path, entry);
     }
 

@@ -8,7 +8,7 @@ use crate::entry::Entry;
 use crate::numbers::{path_at, path_number};
 use indexmap::IndexSet;
 use std::alloc::Global;
-use wave_base::{OutOfMemory, Path};
+use wave_base::{Guesses, OutOfMemory, Path};
 use wave_labels::Label;
 
 /// Labels whose paths have numbers, and behind them, once the numbers of 32 bits are given, labels that are kept with their paths.
@@ -20,6 +20,8 @@ pub(crate) struct Kept {
     pub entries: Vec<Entry>,
     /// Those that are kept with their paths.
     pub whole: Vec<(Entry, Path)>,
+    /// The numbers that paths likely have.
+    pub near: Guesses,
 }
 
 /// What there is room for.
@@ -43,6 +45,7 @@ impl Kept {
             paths: IndexSet::new(alloc),
             entries: Vec::new(alloc),
             whole: Vec::new(alloc),
+            near: Guesses::new(),
         }
     }
 
@@ -96,7 +99,8 @@ impl Kept {
         if !self.whole.is_empty() {
             return Ok(None);
         }
-        let number = path_number(&mut self.paths, last_number(&self.entries), path)?;
+        let number = path_number(&mut self.paths, self.near.at(path), path)?;
+        self.near.note(path, number);
         Ok(u32::try_from(number).ok())
     }
 
@@ -113,13 +117,5 @@ impl Kept {
             Room::Numbered(number) => self.entries.push_reserved(Entry::of(label, number)),
             Room::Whole(path) => self.whole.push_reserved((Entry::of(label, 0), path)),
         }
-    }
-}
-
-// The number of the path of the last label; 0 where there is none.
-fn last_number(entries: &[Entry]) -> u32 {
-    match entries.last() {
-        Some(entry) => entry.path,
-        None => 0,
     }
 }

@@ -66,13 +66,12 @@ impl<'p> Board<'p> {
         ensures same { OnErr result (history_of self.new ≡ history_of self.old) }
     {
         self.journal.reserve(&path_of(&label.act))?;
-        self.machine.reserve(&label)?;
         if is_start(&label.act) {
-            let lease = self.machine.start(&label);
+            let lease = self.machine.take_start(&label)?;
             self.journal.push_reserved(&label);
             return Ok(Turn::Segment(lease));
         }
-        self.machine.step(&label);
+        self.machine.take(&label)?;
         self.journal.push_reserved(&label);
         Ok(Turn::Stepped(label))
     }

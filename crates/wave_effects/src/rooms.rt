@@ -34,7 +34,7 @@ impl<'p> Engine<'p> {
         let cell = &mut self.cells[(ticket.0 - self.first) as usize];
         cell.reserve(0)?;
         let store = &mut self.stores[host.0 as usize];
-        store.entry_mut(path).reserve(1)
+        store.entry_mut(path).reserve_peek()
     }
 
     // Room for one more context.

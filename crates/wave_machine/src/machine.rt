@@ -153,6 +153,39 @@ impl<'p> Machine<'p> {
         }
     }
 
+    /// Makes all that a label needs, and takes it: one that is enabled, and neither a Start nor a Stop. The machine is reserved for none then.
+    /// After want of memory the state stays as it is.
+    pub fn take(&mut self, label: &Label) -> Result<(), OutOfMemory>
+        requires enabled { IsEnabled self.old.kept (label_of label.now) }
+        requires kind { is_step label.now.act ≡ true }
+        ensures takes { OnOk result (Takes self.old.kept self.new.kept (label_of label.now)) }
+        ensures keeps { OnErr result (Keeps self.old.kept self.new.kept) }
+        ensures plan { self.new.kept.plan ≡ self.old.kept.plan }
+        ensures reserved { self.new.reserved ≡ None }
+    {
+        forget(&mut self.prepared);
+        let part = self.listed.prepare(self.alloc, label)?;
+        self.listed.act(label, part);
+        Ok(())
+    }
+
+    /// The same for a Start. The lease has the actor and the record that the worker has in its hand then, and a segment of it may run.
+    pub fn take_start(&mut self, label: &Label) -> Result<Lease, OutOfMemory>
+        requires enabled { IsEnabled self.old.kept (label_of label.now) }
+        requires kind { is_start label.now.act ≡ true }
+        ensures takes { OnOk result (Takes self.old.kept self.new.kept (label_of label.now)) }
+        ensures leases { IfOk result (λ lease. Leases self.old.kept (label_of label.now) lease) }
+        ensures may_run { IfOk result (λ lease. MayRun self.new.kept.plan.program lease.actor lease.body) }
+        ensures worker { IfOk result (λ lease. lease.worker ≡ label.now.worker) }
+        ensures keeps { OnErr result (Keeps self.old.kept self.new.kept) }
+        ensures plan { self.new.kept.plan ≡ self.old.kept.plan }
+        ensures reserved { self.new.reserved ≡ None }
+    {
+        forget(&mut self.prepared);
+        let part = self.listed.prepare(self.alloc, label)?;
+        Ok(self.listed.act_start(label, part))
+    }
+
     /// Takes a Start for which it is reserved. The lease has the actor and the record that the worker has in its hand then, and a
     /// segment of it may run.
     pub fn start(&mut self, label: &Label) -> Lease

@@ -1,13 +1,10 @@
-use Rattle.std.proofs.Common.{◌≡◌, ◌+◌, ◌<◌, ℕ, refl, sym, ap, ◌∙◌, arith}
+use Rattle.std.proofs.Common.{◌≡◌, ◌+◌, ◌<◌, ℕ, sym, ap, ◌∙◌, arith}
 use Rattle.std.specs.Prelude.{nat_eq}
 use Rattle.std.specs.Map.{lookup}
 use Rattle.std.specs.FinMap as table
 use Rattle.context_queue.specs.inner.Boxes.{entries_in}
-use Rattle.context_queue.proofs.QueueMaps.{none_got, none_at}
+use Rattle.context_queue.proofs.QueueMaps.{none_at}
 use Rattle.context_queue.proofs.waiting.Waiting.after.Goals as goal
-
-pub returns-then-len-eq0-clause-claim : goal.returns-then-len-eq0-clause-claim
-returns-then-len-eq0-clause-claim c = none_got c.args.self.now.claims (c.args.number + 1) (sym c.len.ensures ∙ c.if-len-eq0.true)
 
 last : (n : ℕ) → n < 18446744073709551616 → (n + 1 < 18446744073709551616 → ⊥) → n + 1 ≡ 18446744073709551616
 last n h k = omega arith
