@@ -22,7 +22,7 @@ fn queue(rt: &impl Abort, entry: &mut Entry, number: u64, ticket: u32, peek: boo
 
 // Who gets in.
 fn grant(rt: &impl Abort, entry: &mut Entry) -> Option<Ticket> {
-    assert!(rt; entry.reserve(1).is_ok());
+    assert!(rt; entry.reserve_peek().is_ok());
     entry.grant()
 }
 

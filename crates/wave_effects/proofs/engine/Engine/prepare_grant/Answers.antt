@@ -1,6 +1,5 @@
 use Rattle.std.proofs.Common.{rules, ◌≡◌, ◌<◌, ◌≤◌, ◌-◌, ◌+◌, length, Some, refl, arith}
 use Rattle.std.specs.Prelude.{slice_get}
-use Rattle.std.specs.FinMap as table
 use Rattle.std.proofs.lemmas.Option.{slice_get_read}
 use Rattle.host_map.specs.Stores.{with_entry}
 use Rattle.wave_effects.specs.Keeping.{kept_of}
@@ -53,10 +52,10 @@ pub returns-clause-room : goal.returns-clause-room
 returns-clause-room c =
     let m = kept_of c.args.self.now in
     let store = c.index_mut-store.result.now in
-    let entry = c.reserve-2.new.self in
+    let entry = c.reserve_peek.new.self in
     let writes : Writes store (with_entry store c.args.path.now entry) c.args.path.now entry = record { store = refl; gone = refl } in
-    on_ok c.reserve-2.result (table.len entry.waiting.claims + 1 ≤ entry.peeks.room) _
-    (λ (h : table.len entry.waiting.claims + 1 ≤ entry.peeks.room). grant_room m c.args.host.0 c.args.path.now store (with_entry store c.args.path.now entry) c.args.ticket.0 c.reserve.new.self entry c.in_ok-reserve.ensures.held (omega (arith, h)) writes) c.reserve-2.ensures.peeks
+    on_ok c.reserve_peek.result (1 ≤ entry.peeks.room) _
+    (λ (h : 1 ≤ entry.peeks.room). grant_room m c.args.host.0 c.args.path.now store (with_entry store c.args.path.now entry) c.args.ticket.0 c.reserve.new.self entry c.in_ok-reserve.ensures.held h writes) c.reserve_peek.ensures.peeks
 
 pub returns-clause-keeps : goal.returns-clause-keeps
 returns-clause-keeps c =
@@ -67,12 +66,12 @@ returns-clause-keeps c =
     let there : slice_get m.cells i ≡ Some c.index_mut-cell.result.now = slice_get_read m.cells _ i c.index_mut-cell.result.now refl within c.index_mut-cell.ensures.value in
     let store = c.index_mut-store.result.now in
     let here : slice_get m.stores c.args.host.0 ≡ Some store = slice_get_read m.stores _ c.args.host.0 store refl at.host_in c.index_mut-store.ensures.value in
-    let entry = c.reserve-2.new.self in
+    let entry = c.reserve_peek.new.self in
     let next = with_entry store c.args.path.now entry in
     let writes : Writes store next c.args.path.now entry = record { store = refl; gone = refl } in
     keeps_on m (with_cell m i c.reserve.new.self) (with_store (with_cell m i c.reserve.new.self) c.args.host.0 next)
     (cell_keeps m i c.index_mut-cell.result.now c.reserve.new.self there c.reserve.ensures.same)
-    (store_keeps (with_cell m i c.reserve.new.self) c.args.host.0 store next here (same_but_entry store next c.args.path.now c.entry_mut.result.now entry c.entry_mut.ensures.value c.reserve-2.ensures.same writes))
+    (store_keeps (with_cell m i c.reserve.new.self) c.args.host.0 store next here (same_but_entry store next c.args.path.now c.entry_mut.result.now entry c.entry_mut.ensures.value c.reserve_peek.ensures.same writes))
 
 pub returns-in_err-reserve-clause-asks : goal.returns-in_err-reserve-clause-asks
 returns-in_err-reserve-clause-asks c =
@@ -91,9 +90,9 @@ returns-clause-asks c =
     let there : slice_get m.cells i ≡ Some c.index_mut-cell.result.now = slice_get_read m.cells _ i c.index_mut-cell.result.now refl within c.index_mut-cell.ensures.value in
     let store = c.index_mut-store.result.now in
     let here : slice_get m.stores c.args.host.0 ≡ Some store = slice_get_read m.stores _ c.args.host.0 store refl at.host_in c.index_mut-store.ensures.value in
-    let entry = c.reserve-2.new.self in
+    let entry = c.reserve_peek.new.self in
     let next = with_entry store c.args.path.now entry in
     let writes : Writes store next c.args.path.now entry = record { store = refl; gone = refl } in
     let half = with_cell m i c.reserve.new.self in
     asks_after m half (with_store half c.args.host.0 next) (cell_asks m i c.index_mut-cell.result.now c.reserve.new.self there c.reserve.ensures.same)
-    (store_asks half c.args.host.0 store next here (entry_answers store next c.args.path.now c.entry_mut.result.now entry c.entry_mut.ensures.value c.reserve-2.ensures.same writes))
+    (store_asks half c.args.host.0 store next here (entry_answers store next c.args.path.now c.entry_mut.result.now entry c.entry_mut.ensures.value c.reserve_peek.ensures.same writes))
