@@ -145,24 +145,6 @@ module _ (b b' : Board) (l : Label) (journal : b'.journal.labels ≡ b.journal.l
       let next = some_is (step (plan_actors b.machine.kept.plan.program) b.machine.kept.plan.workers s (stop_of lease l.host.0)) (can o.start.now s stands may.back) in
       goes_on o s next.0 may.at (subst (λ x. step (plan_actors b.machine.kept.plan.program) b.machine.kept.plan.workers s x ≡ Some next.0) (sym is) next.1) (stops o.start.now s next.0 stands may.back next.1)
 
--- a machine that was reserved first
-module _ (m k : Kept) (keeps : Keeps m k) (plan : k.plan ≡ m.plan) where
-  pub enabled_still : (l : theory.Label) → machines.IsEnabled m l → machines.IsEnabled k l
-  enabled_still l on = record {
-    start = on.start;
-    state = on.state;
-    next = on.next;
-    stands = keeps on.start on.state on.stands;
-    enabled = subst (λ p. step (plan_actors p.program) p.workers on.state l ≡ Some on.next) (sym plan) on.enabled;
-  }
-
-  pub takes_still : (m' : Kept) (l : theory.Label) → Takes k m' l → Takes m m' l
-  takes_still m' l takes start s s' stands e = takes start s s' (keeps start s stands) (subst (λ p. step (plan_actors p.program) p.workers s l ≡ Some s') (sym plan) e)
-
-  pub leases_still : (l : theory.Label) (lease : Lease) → Leases k l lease → Leases m l lease
-  leases_still l lease leases start s s' stands e =
-      subst (λ p. IsInHand p.program lease (s'.hands l.worker)) plan (leases start s s' (keeps start s stands) (subst (λ p. step (plan_actors p.program) p.workers s l ≡ Some s') (sym plan) e))
-
 -- what its machine asks for
 pub enabled_in : (b : Board) (l : Label) → CanAppend b l → machines.IsEnabled b.machine.kept (label_of l)
 enabled_in b l can =

@@ -27,3 +27,4 @@ pub mod OwnMails
 pub mod KeptMails
 pub mod Halves
 pub mod Offered
+pub mod Readied
