@@ -29,15 +29,15 @@ impl Model for Walker {
 
 impl Walker {
     /// The walker of a ticket, at the root.
-    pub fn new(alloc: Global, ticket: Ticket) -> Result<Walker, OutOfMemory>
-        ensures { IfOk result (λ w. w ≡ record { ticket = ticket.0; walker = record { at = []; from = None; copied = [] } }) }
+    pub fn new(alloc: Global, ticket: Ticket) -> Walker
+        ensures { result ≡ record { ticket = ticket.0; walker = record { at = []; from = None; copied = [] } } }
     {
-        Ok(Walker {
+        Walker {
             ticket,
             at: Path::root(),
             from: None,
             copied: Vec::new(alloc),
-        })
+        }
     }
 
     /// Its ticket.

@@ -41,7 +41,7 @@ fn a_walk_goes_down_and_back(rt: HostRuntime) -> Result<(), Fail> {
     let alloc = rt.alloc();
     let root = with_hall(alloc, 3)?;
     let hall_record = leaf(alloc, 8)?;
-    let mut walker = Walker::new(alloc, Ticket(2))?;
+    let mut walker = Walker::new(alloc, Ticket(2));
     assert!(rt; walk(alloc, &mut walker, &root)? == Pause::Down(hall()));
     assert!(rt; walk(alloc, &mut walker, &hall_record)? == Pause::Back);
     assert!(rt; walker.ticket() == Ticket(2));
@@ -52,7 +52,7 @@ fn a_walk_goes_down_and_back(rt: HostRuntime) -> Result<(), Fail> {
 fn a_walk_over_the_root_alone(rt: HostRuntime) -> Result<(), Fail> {
     let alloc = rt.alloc();
     let root = leaf(alloc, 3)?;
-    let mut walker = Walker::new(alloc, Ticket(4))?;
+    let mut walker = Walker::new(alloc, Ticket(4));
     let path = Path::root();
     let fields = fields(alloc, 3)?;
     let wanted = vec![in alloc; Shot { path, fields }]?;

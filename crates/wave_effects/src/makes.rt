@@ -37,7 +37,7 @@ pub(crate) fn make(
             Ok(Actor::Mover(Box::new(alloc, mover)?))
         }
         Line::Snapshot => {
-            let walker = Walker::new(alloc, ticket)?;
+            let walker = Walker::new(alloc, ticket);
             Ok(Actor::Walker(Box::new(alloc, walker)?))
         }
     }
