@@ -26,14 +26,14 @@ returns-in_err-take-clause-stands c =
     let after : Board = record c.args.self.now { machine = c.take.new.self; journal = c.reserve.new.self } in
     still c.args.self.now after c.reserve.ensures.labels c.take.ensures.plan (λ h. h) c.in_err-take.ensures.keeps
 
-pub returns-in_ok-lease-clause-stands : goal.returns-in_ok-lease-clause-stands
-returns-in_ok-lease-clause-stands c =
+pub returns-then-is_start-clause-stands : goal.returns-then-is_start-clause-stands
+returns-then-is_start-clause-stands c =
     let b = c.args.self.now in
     let after : Board = record b { machine = c.take_start.new.self; journal = c.push_reserved.new.self } in
     taken b after c.args.label (c.push_reserved.ensures ∙ ap (λ xs. xs ++ c.args.label ∷ []) c.reserve.ensures.labels) refl c.take_start.ensures.plan c.requires.can.enabled c.in_ok-lease.ensures.takes
 
-pub returns-in_ok-lease-clause-took : goal.returns-in_ok-lease-clause-took
-returns-in_ok-lease-clause-took c =
+pub returns-then-is_start-clause-took : goal.returns-then-is_start-clause-took
+returns-then-is_start-clause-took c =
     let b = c.args.self.now in
     let lease = c.in_ok-lease.lease in
     let after : Board = record b { machine = c.take_start.new.self; journal = c.push_reserved.new.self } in
