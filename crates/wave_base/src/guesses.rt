@@ -1,24 +1,26 @@
 //! Where paths were found last.
 
-ghost use Rattle.std.specs.Prelude.{◌≡◌, ◌<◌, Some, slice_get, slice_set};
+ghost use Rattle.std.specs.Prelude.{◌≡◌, ◌<◌, Some, replicate, slice_get, slice_set};
 ghost use Rattle.wave_base.specs.Slots.{slot_of};
 
 use crate::path::Path;
 
-/// For how many groups of paths there is a guess.
+/// For how many slots there is a guess.
 const SLOTS: usize = 64;
 
-/// Where a path likely stands in a table of paths: where one was found last that ends in such a key, as deep in the tree. It is a guess:
-/// whoever asks looks there first, and searches where another path stands there.
+/// Where a path likely stands in a table of paths: where one of its slot was found last. The slot goes by the last key and the depth. It is
+/// a guess: whoever asks looks there first, and searches where another path stands there.
 #[derive(Clone, Copy, Debug)]
 pub struct Guesses {
-    /// The place of each group.
+    /// The place of each slot.
     pub places: [usize; SLOTS],
 }
 
 impl Guesses {
-    /// The first place for all.
-    pub fn new() -> Guesses {
+    /// The first place for each slot.
+    pub fn new() -> Guesses
+        ensures { result.places ≡ replicate 64 0 }
+    {
         Guesses { places: [0; SLOTS] }
     }
 
@@ -37,7 +39,7 @@ impl Guesses {
     }
 }
 
-// The group of a path, by its last key and its depth.
+// The slot of a path, by its last key and its depth.
 fn slot(path: &Path) -> usize
     ensures slot { result ≡ slot_of path.now }
     ensures within { result < SLOTS }
