@@ -42,9 +42,10 @@ impl Model for Peeks {
 }
 
 impl Peeks {
-    /// No tickets.
+    /// No tickets, and room for one.
     pub fn new(alloc: Global) -> Peeks
-        ensures { result.tickets ≡ set.empty }
+        ensures tickets { result.tickets ≡ set.empty }
+        ensures room { 1 ≤ result.room }
     {
         Peeks {
             alloc,

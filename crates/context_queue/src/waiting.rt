@@ -54,9 +54,10 @@ impl Model for Waiting {
 }
 
 impl Waiting {
-    /// Nobody waits.
+    /// Nobody waits, and there is room for one.
     pub fn new(alloc: Global) -> Waiting
-        ensures { result.claims ≡ map.empty }
+        ensures claims { result.claims ≡ map.empty }
+        ensures room { 1 ≤ result.room }
     {
         Waiting {
             alloc,
