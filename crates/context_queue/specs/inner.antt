@@ -1,2 +1,2 @@
 pub mod Admits
-pub mod Boxes
+pub mod Kept

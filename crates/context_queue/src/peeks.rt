@@ -32,7 +32,7 @@ pub(crate) enum Tickets {
 
 impl Model for Peeks {
     ghost use Rattle.context_queue.specs.Lines.{Group, group_code};
-    ghost use Rattle.context_queue.specs.inner.Boxes.{group_of};
+    ghost use Rattle.context_queue.specs.inner.Kept.{group_of};
 
     ghost Value = { Group };
 

@@ -42,7 +42,7 @@ impl Model for Waiting {
     ghost use Rattle.std.specs.Prelude.{◌≡◌, ◌^◌, None, nat_eq};
     ghost use Rattle.std.specs.Map.{lookup};
     ghost use Rattle.context_queue.specs.Lines.{Line, line_code};
-    ghost use Rattle.context_queue.specs.inner.Boxes.{entries_in, line_in};
+    ghost use Rattle.context_queue.specs.inner.Kept.{entries_in, line_in};
 
     ghost Value = { Line };
 

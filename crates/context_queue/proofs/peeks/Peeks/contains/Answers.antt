@@ -1,7 +1,7 @@
 use Rattle.std.proofs.Common.{[], sym, ap, ◌∙◌}
 use Rattle.std.specs.Ordering.{nat_cmp}
 use Rattle.std.specs.FinSet as set
-use Rattle.context_queue.specs.inner.Boxes.{group_of}
+use Rattle.context_queue.specs.inner.Kept.{group_of}
 use Rattle.context_queue.proofs.QueueMaps.{contains_is_any, one_has}
 use Rattle.context_queue.proofs.peeks.Peeks.contains.Goals as goal
 

@@ -3,7 +3,7 @@ use Rattle.std.specs.Prelude.{nat_eq}
 use Rattle.std.specs.Ordering.{nat_cmp}
 use Rattle.std.specs.FinSet as set
 use Rattle.context_queue.specs.Lines.{is_nobody}
-use Rattle.context_queue.specs.inner.Boxes.{group_of}
+use Rattle.context_queue.specs.inner.Kept.{group_of}
 use Rattle.context_queue.proofs.QueueMaps.{set_len_is_length, none_distinct, one_distinct}
 use Rattle.context_queue.proofs.peeks.Peeks.is_empty.Goals as goal
 

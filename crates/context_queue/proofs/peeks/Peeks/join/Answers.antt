@@ -2,7 +2,7 @@ use Rattle.std.proofs.Common.{◌≤◌, sym, ap, subst, ◌∙◌, IsOk, Result
 use Rattle.std.specs.Ordering.{nat_cmp}
 use Rattle.std.specs.FinSet as set
 use Rattle.std.specs.HashSet.{spare}
-use Rattle.context_queue.specs.inner.Boxes.{group_of}
+use Rattle.context_queue.specs.inner.Kept.{group_of}
 use Rattle.context_queue.proofs.QueueMaps.{joined}
 use Rattle.context_queue.proofs.peeks.Peeks.join.Goals as goal
 

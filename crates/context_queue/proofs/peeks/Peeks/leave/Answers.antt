@@ -1,7 +1,7 @@
 use Rattle.std.proofs.Common.{sym, ap, ◌∙◌}
 use Rattle.std.specs.Ordering.{nat_cmp}
 use Rattle.std.specs.FinSet as set
-use Rattle.context_queue.specs.inner.Boxes.{group_of}
+use Rattle.context_queue.specs.inner.Kept.{group_of}
 use Rattle.context_queue.proofs.QueueMaps.{is_other, is_own, left, nobody_leaves, one_leaves, other_leaves}
 use Rattle.context_queue.proofs.peeks.Peeks.leave.Goals.{in-Many-1, in-Nobody-1}
 use Rattle.context_queue.proofs.peeks.Peeks.leave.Goals as goal

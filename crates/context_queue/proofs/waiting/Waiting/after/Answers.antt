@@ -2,7 +2,7 @@ use Rattle.std.proofs.Common.{◌≡◌, ◌+◌, ◌<◌, ℕ, sym, ap, ◌∙�
 use Rattle.std.specs.Prelude.{nat_eq}
 use Rattle.std.specs.Map.{lookup}
 use Rattle.std.specs.FinMap as table
-use Rattle.context_queue.specs.inner.Boxes.{entries_in}
+use Rattle.context_queue.specs.inner.Kept.{entries_in}
 use Rattle.context_queue.proofs.QueueMaps.{none_at}
 use Rattle.context_queue.proofs.waiting.Waiting.after.Goals as goal
 

@@ -2,7 +2,7 @@ use Rattle.std.proofs.Common.{◌≤◌, sym, ap, subst, ◌∙◌, IsOk, Result
 use Rattle.std.specs.HashMap.{spare}
 use Rattle.std.specs.Ordering.{nat_cmp}
 use Rattle.std.specs.FinMap as table
-use Rattle.context_queue.specs.inner.Boxes.{line_in}
+use Rattle.context_queue.specs.inner.Kept.{line_in}
 use Rattle.context_queue.proofs.QueueMaps.{inserted}
 use Rattle.context_queue.proofs.waiting.Waiting.join.Goals as goal
 

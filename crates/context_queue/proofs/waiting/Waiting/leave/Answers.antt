@@ -1,7 +1,7 @@
 use Rattle.std.proofs.Common.{sym, ap, ◌∙◌}
 use Rattle.std.specs.Ordering.{nat_cmp}
 use Rattle.std.specs.FinMap as table
-use Rattle.context_queue.specs.inner.Boxes.{line_in}
+use Rattle.context_queue.specs.inner.Kept.{line_in}
 use Rattle.context_queue.proofs.QueueMaps.{is_other, is_own, removed, none_removed, one_removed, other_removed}
 use Rattle.context_queue.proofs.waiting.Waiting.leave.Goals.{in-Many-1, in-Nobody-1}
 use Rattle.context_queue.proofs.waiting.Waiting.leave.Goals as goal

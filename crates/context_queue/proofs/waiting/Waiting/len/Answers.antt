@@ -1,7 +1,7 @@
 use Rattle.std.proofs.Common.{[], ◌∷◌, sym, ap, ◌∙◌}
 use Rattle.std.specs.Ordering.{nat_cmp}
 use Rattle.std.specs.FinMap as table
-use Rattle.context_queue.specs.inner.Boxes.{line_in}
+use Rattle.context_queue.specs.inner.Kept.{line_in}
 use Rattle.context_queue.proofs.QueueMaps.{len_is_length, none_distinct, one_distinct}
 use Rattle.context_queue.proofs.waiting.Waiting.len.Goals as goal
 

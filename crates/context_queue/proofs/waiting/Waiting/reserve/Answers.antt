@@ -4,7 +4,7 @@ use Rattle.std.specs.HashMap.{spare}
 use Rattle.std.specs.Map.{lookup}
 use Rattle.std.specs.Ordering.{nat_cmp}
 use Rattle.std.specs.FinMap as table
-use Rattle.context_queue.specs.inner.Boxes.{entries_in, line_in}
+use Rattle.context_queue.specs.inner.Kept.{entries_in, line_in}
 use Rattle.context_queue.proofs.QueueMaps.{get_is_lookup, len_is_length, none_distinct, one_distinct, same_entries}
 use Rattle.context_queue.proofs.waiting.Waiting.reserve.Goals.{in-Many-1, in-Nobody-1, in-Many-2, in-Nobody-2}
 use Rattle.context_queue.proofs.waiting.Waiting.reserve.Goals as goal
