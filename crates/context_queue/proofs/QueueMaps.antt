@@ -1,5 +1,5 @@
 -- The lemmas of tables at numbers.
-use Rattle.std.proofs.Common.{rules, ◌≡◌, ℕ, Bool, ◌||◌, List, [], ◌∷◌, Option, Some, None, true, false, cond, length, sym, ap, ◌∙◌, arith, refl}
+use Rattle.std.proofs.Common.{rules, ◌≡◌, ℕ, Bool, ◌||◌, List, [], ◌∷◌, Option, Some, None, Result, Ok, Err, IsOk, OnOk, true, false, cond, length, sym, ap, ◌∙◌, arith, refl}
 use Rattle.std.specs.Prelude.{nat_eq}
 use Rattle.std.specs.Ordering.{nat_cmp}
 use Rattle.std.specs.Cmp.{unsigned_ties}
@@ -74,6 +74,11 @@ none_removed k = removed [] [] k (λ q. no_more (nat_eq k q))
 -- a table that counts none has none
 pub none_got : {X : Type 0} (m : table.FinMap nat_cmp X) (q : ℕ) → table.len m ≡ 0 → None ≡ table.get m q
 none_got m q e = sym (ap (λ n. table.get n q) (table.empty_of_len m e) ∙ table.get-empty nat_cmp q)
+
+-- a call that succeeds keeps what is said of those that do
+pub of_ok : {A E P : Type 0} (r : Result A E) → IsOk r → OnOk r P → P
+of_ok (Ok x) h p = p
+of_ok (Err e) h p = cc
 
 -- whether a number is another one
 pub is_own : (k n : ℕ) → k ≡ n → nat_eq k n ≡ true

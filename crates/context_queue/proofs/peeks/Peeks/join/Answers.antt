@@ -1,14 +1,10 @@
-use Rattle.std.proofs.Common.{◌≤◌, sym, ap, subst, ◌∙◌, IsOk, Result, Ok, Err, OnOk}
+use Rattle.std.proofs.Common.{◌≤◌, sym, ap, subst, ◌∙◌}
 use Rattle.std.specs.Ordering.{nat_cmp}
 use Rattle.std.specs.FinSet as set
 use Rattle.std.specs.HashSet.{spare}
 use Rattle.context_queue.specs.inner.Kept.{group_of}
-use Rattle.context_queue.proofs.QueueMaps.{joined}
+use Rattle.context_queue.proofs.QueueMaps.{joined, of_ok}
 use Rattle.context_queue.proofs.peeks.Peeks.join.Goals as goal
-
-of_ok : {A E P : Type 0} (r : Result A E) → IsOk r → OnOk r P → P
-of_ok (Ok x) h p = p
-of_ok (Err e) h p = cc
 
 pub returns-in-Many-clause-tickets : goal.returns-in-Many-clause-tickets
 returns-in-Many-clause-tickets c =

@@ -1,14 +1,10 @@
-use Rattle.std.proofs.Common.{◌≤◌, sym, ap, subst, ◌∙◌, IsOk, Result, Ok, Err, OnOk}
+use Rattle.std.proofs.Common.{◌≤◌, sym, ap, subst, ◌∙◌}
 use Rattle.std.specs.HashMap.{spare}
 use Rattle.std.specs.Ordering.{nat_cmp}
 use Rattle.std.specs.FinMap as table
 use Rattle.context_queue.specs.inner.Kept.{line_in}
-use Rattle.context_queue.proofs.QueueMaps.{inserted}
+use Rattle.context_queue.proofs.QueueMaps.{inserted, of_ok}
 use Rattle.context_queue.proofs.waiting.Waiting.join.Goals as goal
-
-of_ok : {A E P : Type 0} (r : Result A E) → IsOk r → OnOk r P → P
-of_ok (Ok x) h p = p
-of_ok (Err e) h p = cc
 
 pub returns-in-Many-clause-claims : goal.returns-in-Many-clause-claims
 returns-in-Many-clause-claims c =
