@@ -258,7 +258,7 @@ impl<A: Drop> Cell<A> {
     /// A worker takes the actor, and runs it at a context.
     pub fn start(&mut self, path: Path) -> Option<A>
         requires { is_over self.old.status ≡ false }
-        ensures actor { (d : Desk A (List Value)) → is_over self.old.status ≡ false → StandsFor self.old d → result ≡ d.event.actor }
+        ensures actor { (d : Desk A (List Value)) → StandsFor self.old d → result ≡ d.event.actor }
         ensures desk { (d : Desk A (List Value)) → StandsFor self.old d → StandsFor self.new (with_actor d None (theory.Running path)) }
         ensures away { self.new.actor ≡ None }
         ensures taken { result ≡ self.old.actor }
