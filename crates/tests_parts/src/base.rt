@@ -1,7 +1,8 @@
-//! Paths and tables.
+//! Paths, tables and guesses.
 
 use std::test::Fail;
-use wave_base::{Class, Path, Step, Table};
+use tests_services::{hall, stall};
+use wave_base::{Class, Guesses, Path, Step, Table};
 
 #[test]
 fn orders_by_class_then_signed_key(rt: HostRuntime) -> Result<(), Fail> {
@@ -85,4 +86,19 @@ fn keeps_the_pairs_of_a_queue(rt: HostRuntime) -> Result<(), Fail> {
     assert_eq!(rt; table.key_at(99), Some(10_099));
     assert_eq!(rt; table.get(10_099), Some(9_999));
     Ok(())
+}
+
+#[test]
+fn paths_of_a_slot_share_a_guess(rt: HostRuntime) {
+    let mut guesses = Guesses::new();
+    for (one, other) in [(3, -3), (1, 33), (0, i64::MIN)] {
+        assert_eq!(rt; guesses.at(&hall(other)), 0);
+        guesses.note(&hall(one), 7);
+        assert_eq!(rt; guesses.at(&hall(other)), 7);
+        guesses.note(&hall(other), 9);
+        assert_eq!(rt; guesses.at(&hall(one)), 9);
+    }
+    // Other keys and other depths have slots of their own.
+    assert_eq!(rt; guesses.at(&hall(2)), 0);
+    assert_eq!(rt; guesses.at(&stall(3, 3)), 0);
 }

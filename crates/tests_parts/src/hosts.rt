@@ -44,6 +44,32 @@ fn recount(rt: &impl Abort, store: &mut HostStore, path: &Path) {
     store.entry_mut(path).recount(2, 0);
 }
 
+// How often the entry says that its context moved; none where it is not here.
+fn moves(store: &HostStore, path: &Path) -> Option<u64> {
+    match store.entry(path) {
+        Some(entry) => Some(entry.moves),
+        None => None,
+    }
+}
+
+// Two contexts of a store, looked up by turns.
+fn are_told_apart(rt: &impl Abort, alloc: Global, one: &Path, other: &Path) {
+    let mut store = HostStore::new(alloc);
+    begin(rt, alloc, &mut store, *one);
+    assert!(rt; store.find(other) == Found::Unknown);
+    begin(rt, alloc, &mut store, *other);
+    for turn in 0..3 {
+        set_moves(rt, &mut store, one, turn);
+        assert!(rt; store.find(other) == Found::Here);
+        set_moves(rt, &mut store, other, turn + 10);
+        assert!(rt; moves(&store, one) == Some(turn));
+        assert!(rt; moves(&store, other) == Some(turn + 10));
+    }
+    assert!(rt; take(&mut store, one).is_some());
+    assert!(rt; store.find(one) == Found::Unknown);
+    assert!(rt; moves(&store, other) == Some(12));
+}
+
 #[test]
 fn entries_come_and_go(rt: HostRuntime) -> Result<(), Fail> {
     let alloc = rt.alloc();
@@ -105,4 +131,12 @@ fn a_context_has_its_place(rt: HostRuntime) -> Result<(), Fail> {
     assert!(rt; place_of(&hosts, &hall(-1)) == Some(Host(1)));
     assert!(rt; place_of(&hosts, &hall(7)).is_none());
     Ok(())
+}
+
+// Each is looked for first where the other one was found.
+#[test]
+fn contexts_that_share_a_guess_are_told_apart(rt: HostRuntime) {
+    let alloc = rt.alloc();
+    are_told_apart(&rt, alloc, &hall(3), &hall(-3));
+    are_told_apart(&rt, alloc, &hall(1), &hall(33));
 }

@@ -58,3 +58,25 @@ fn recorded_labels_come_back(rt: HostRuntime) -> Result<(), Fail> {
     }
     Ok(())
 }
+
+fn granted(key: i64) -> Label {
+    label(0, 0, Act::Grant(Ticket(7), hall(key)))
+}
+
+// Each path is looked for first under the number of the other one that shares its guess.
+#[test]
+fn paths_that_share_a_guess_are_told_apart(rt: HostRuntime) -> Result<(), Fail> {
+    let keys = [3, -3, 3, -3, 1, 33, 1, 33, -3, 33, 3, 1];
+    let mut log = LabelLog::new(rt.alloc());
+    for key in keys {
+        log.push(&granted(key))?;
+    }
+    assert_eq!(rt; log.len(), 12);
+    for i in 0..log.len() {
+        match keys.as_slice().get(i) {
+            Some(key) => assert!(rt; log.label_at(i) == granted(*key)),
+            None => assert!(rt; false),
+        }
+    }
+    Ok(())
+}
