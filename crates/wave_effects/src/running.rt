@@ -146,10 +146,10 @@ impl<'p> Engine<'p> {
     pub fn stop(&mut self, host: Host, mut lease: Lease, pause: Pause) -> Result<Label, Refused>
         requires stopping { IsStopping (kept_of self.old) lease pause }
         requires place { place_in (kept_of self.old).stores lease.path ≡ Some host.0 }
-        ensures label { IfOk result (λ l. label_of l ≡ stop_of lease host.0) }
+        ensures label { IfOk result (λ l. label_of l ≡ stop_of lease l.host.0) }
         ensures host { IfOk result (λ l. l.host ≡ host) }
-        ensures enabled { OnOk result (CanStop (kept_of self.old) lease pause host.0) }
-        ensures stops { OnOk result (Stops (kept_of self.old) lease pause host.0 (kept_of self.new)) }
+        ensures enabled { IfOk result (λ l. CanStop (kept_of self.old) lease pause l.host.0) }
+        ensures stops { IfOk result (λ l. Stops (kept_of self.old) lease pause l.host.0 (kept_of self.new)) }
         ensures moves { IfOk result (λ l. (c : cells.Cell actors.Actor) → slice_get (kept_of self.old).cells (lease.ticket.0 - self.old.first) ≡ Some c → Moves (kept_of self.old) (kept_of self.new) (label_of l) (1 + length c.held.holds)) }
         ensures refused { IfErr result (λ r. (r.lease ≡ lease) × (r.pause ≡ pause)) }
         ensures keeps { OnErr result (Keeps (kept_of self.old) (kept_of self.new)) }

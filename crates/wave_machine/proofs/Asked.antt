@@ -8,10 +8,11 @@ use Rattle.wave_base.specs.Fold.{tickets_from}
 use Rattle.wave_states.specs.Labels.{Label, Admit, Commit}
 use Rattle.wave_theory.proofs.Basics.{none_not}
 use Rattle.wave_machine.specs.declared.ready.Ready.{Ready}
+use Rattle.wave_effects.specs.declared.engine.Engine.{Engine}
 use Rattle.wave_effects.specs.Machines.{Kept, Keeps, IsStood}
 use Rattle.wave_effects.specs.Apart.{AsksTheSame, Moves}
 use Rattle.wave_machine.specs.inner.Asking.{in_order, label_at}
-use Rattle.wave_machine.specs.inner.Index.{IsIndex, asked_at, by_part, has_at, head_in, next_at, HasRoom, IsListed, weight_of}
+use Rattle.wave_machine.specs.inner.Index.{IsIndex, asked_at, by_part, has_at, head_in, next_at, HasRoom, IsListed, SameList, weight_of}
 use Rattle.wave_machine.specs.declared.listed.Listed.{Listed}
 use Rattle.wave_effects.specs.Keeping.{kept_of}
 use Rattle.wave_machine.specs.inner.Done.{AreDone}
@@ -79,6 +80,14 @@ listed_same x y listed stood keeps asks items done weight =
       done = subst (AreDone m') (sym done) (kept_done m m' x.done stood keeps listed.done);
       weight = omega (arith, heavy, was, weight);
     }
+
+-- more room is no other list
+pub listed_still : (x y : Listed) → SameList x y → IsListed x → IsListed y
+listed_still x y same listed = record {
+  index = subst (λ (e : Engine). IsIndex (kept_of e) y.index.items) (sym same.engine) (subst (IsIndex (kept_of x.engine)) (sym same.items) listed.index);
+  done = subst (λ (e : Engine). AreDone (kept_of e) y.done) (sym same.engine) (subst (AreDone (kept_of x.engine)) (sym same.done) listed.done);
+  weight = subst (λ (e : Engine). weight_of (kept_of e).cells ≤ y.weight) (sym same.engine) (subst (λ n. weight_of (kept_of x.engine).cells ≤ n) (sym same.weight) listed.weight);
+}
 
 pub room_same : (x y : Listed) (more : ℕ) → HasRoom x more → y.weight ≡ x.weight → vec_len y.index ≡ vec_len x.index → vec_capacity x.index ≤ vec_capacity y.index → HasRoom y more
 room_same x y more h weight len capacity =

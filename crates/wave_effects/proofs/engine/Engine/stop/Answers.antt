@@ -2,6 +2,7 @@ use Rattle.std.proofs.Common.{rules, ◌≡◌, ◌∙◌, ℕ, ◌+◌, ◌<◌
 use Rattle.std.specs.Prelude.{slice_get}
 use Rattle.std.specs.FinMap as table
 use Rattle.std.proofs.lemmas.Option.{slice_get_read, slice_get_within}
+use Rattle.host_map.specs.Stores.{has}
 use Rattle.event_cells.specs.declared.cell.Cell.{Cell}
 use Rattle.wave_theory.proofs.Basics.{some_same}
 use Rattle.wave_effects.specs.Running.{stop_of}
