@@ -1,4 +1,5 @@
 use Rattle.std.proofs.Common.{◌≡◌, ◌∙◌, ◌+◌, ◌-◌, length, refl, sym, ap, subst, arith}
+use Rattle.std.specs.Prelude.{Result, Ok, Err, OnOk}
 use Rattle.wave_base.specs.declared.numbers.Host.{Host}
 use Rattle.wave_labels.specs.Labels.{label_of}
 use Rattle.wave_states.specs.Labels.{Label, path_of, ticket_of}
@@ -26,6 +27,11 @@ host_of-host-requires c = (c.args.pause, subst (λ (e : Engine). IsStopping (kep
 pub stop-requires-clause-stopping : goal.stop-requires-clause-stopping
 stop-requires-clause-stopping c = subst (λ (e : Engine). IsStopping (kept_of e) c.args.lease c.args.pause) (sym c.reserve.ensures.same.engine) c.requires.stopping
 
+-- what was not refused
+not_refused : {P T E : Type 0} (r : Result T E) → ((e : E) → r ≡ Err e → ⊥) → OnOk r P → P
+not_refused (Ok x) h p = p
+not_refused (Err e) h p = absurd (h e refl)
+
 pub update-requires : goal.update-requires
 update-requires c =
     let x = c.reserve.new.self in
@@ -48,7 +54,7 @@ update-requires c =
     subst (λ (z : Label). Sees m z.host (ticket_of z.act) (path_of z.act) c.look-seen.result) (sym is) (subst (λ (x : Host). Sees m x.0 t lease.path c.look-seen.result) (sym c.in-Ok.ensures.host) c.look-seen.ensures) in
     let listed = listed_still c.args.self.now x same c.requires.listed in
     let stood = stood_stopped m m' lease c.args.pause h on c.in-Ok.ensures.enabled c.in-Ok.ensures.stops in
-    let room : HasRoom x (1 + length some.0.held.holds) = subst (HasRoom x) (c.may_leave-more.ensures ∙ (λ i. 1 + held_at (kept_of (sym same.engine i)) t) ∙ ap (λ n. 1 + n) held) c.reserve.ensures.room in (
+    let room : HasRoom x (1 + length some.0.held.holds) = subst (HasRoom x) (c.may_leave-more.ensures ∙ (λ i. 1 + held_at (kept_of (sym same.engine i)) t) ∙ ap (λ n. 1 + n) held) (not_refused c.reserve.result c.in_default.not-Err c.reserve.ensures.room) in (
       m,
       1 + length some.0.held.holds,
       record {
