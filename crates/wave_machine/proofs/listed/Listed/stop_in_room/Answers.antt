@@ -1,11 +1,11 @@
-use Rattle.std.proofs.Common.{◌≡◌, ◌∙◌, ◌+◌, ◌-◌, length, refl, sym, ap, subst, arith}
+use Rattle.std.proofs.Common.{◌≡◌, ◌∙◌, ◌+◌, ◌-◌, length, refl, sym, ap, subst, arith, true≢false}
 use Rattle.wave_labels.specs.Labels.{label_of}
 use Rattle.wave_states.specs.Labels.{Label, path_of, ticket_of}
 use Rattle.wave_effects.specs.declared.engine.Engine.{Engine}
 use Rattle.wave_effects.specs.Keeping.{kept_of, place_in}
 use Rattle.wave_effects.specs.Running.{Stops, stop_of}
 use Rattle.wave_effects.specs.Apart.{Moves, new_cells}
-use Rattle.wave_machine.specs.inner.Index.{HasRoom, KeepsMails, Sees, held_at, held_by}
+use Rattle.wave_machine.specs.inner.Index.{HasRoom, KeepsMails, Sees, held_at, held_by, is_queue}
 use Rattle.wave_machine.proofs.Asked.{listed_same}
 use Rattle.wave_effects.proofs.Halting.{cell_at}
 use Rattle.wave_machine.proofs.KeptMails.{mails_stopped, numbered_stood}
@@ -47,6 +47,7 @@ update-requires c =
           numbered = numbered_stood c.states_are_known.ensures m (record { start = on.start; state = on.state; stands = on.stands });
           grows = λ one. absurd (let none : new_cells l.act ≡ 0 = ap (λ (z : Label). new_cells z.act) is in omega (arith, one, none));
           sees = sees;
+          born = λ queue. absurd (true≢false (sym queue ∙ ap (λ (z : Label). is_queue z.act) is));
         };
         index = c.requires.listed.index;
         done = stopped_done c.done_stays.ensures m m' x.done c.requires.listed.done lease c.args.pause h on c.in-Ok.ensures.enabled c.in-Ok.ensures.stops;
