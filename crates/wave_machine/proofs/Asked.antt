@@ -16,7 +16,7 @@ use Rattle.wave_machine.specs.inner.Index.{IsIndex, asked_at, by_part, has_at, h
 use Rattle.wave_machine.specs.declared.listed.Listed.{Listed}
 use Rattle.wave_effects.specs.Keeping.{kept_of}
 use Rattle.wave_machine.specs.inner.Done.{AreDone}
-use Rattle.wave_machine.proofs.Elsewhere.{others_ask}
+use Rattle.wave_machine.proofs.Elsewhere.{others_ask, ways_here}
 use Rattle.wave_machine.proofs.Untouched.{kept_done}
 use Rattle.wave_machine.proofs.Weighing.{weight_asks}
 use Rattle.wave_machine.proofs.Ordering.{same_numbered}
@@ -53,7 +53,7 @@ module _ (m m' : Kept) (a : AsksTheSame m m') where
 
   asks_same : (u : ℕ) → m'.first ≤ u → u < m'.first + length m'.cells → asked_at m u ≡ asked_at m' u
   asks_same u low high =
-      others_ask m m' (idle_label (suc u)) 0 (moves_of (suc u)) (ap (has_at []) no_new ∙ sym (ap (has_at []) no_old)) u
+      others_ask m m' (idle_label (suc u)) 0 (moves_of (suc u)) (ways_here m m' (idle_label (suc u)) 0 (moves_of (suc u)) (ap (has_at []) no_new ∙ sym (ap (has_at []) no_old))) u
       (λ e. none_not (sym (ap (next_at []) no_old) ∙ e)) (λ e. none_not (sym (ap (next_at []) no_new) ∙ e)) (λ e. absurd (omega (arith, e))) low high (omega arith)
 
   head_same : head_in m' ≡ head_in m

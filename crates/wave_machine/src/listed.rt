@@ -22,6 +22,7 @@ ghost use Rattle.wave_effects.specs.Spare.{IsAsLong, SameButRooms};
 
 use crate::done::{count_done, done_stays};
 use crate::index::{is_on_head, ticket_of};
+use crate::listable::states_list;
 use crate::looks::{asks_at, line_at, may_leave, path_of, sent_at, share_at};
 use crate::ready::Ready;
 use crate::renewing::{relist_after, relist_head, renew_head};
@@ -33,8 +34,8 @@ use wave_effects::{
 use wave_labels::{Act, Label};
 
 /// An engine, and in canonical order what can be done by an idle worker. A label changes what the status of its ticket asks for, its own
-/// mail and those that it sends, and what whoever is next in the line of its context asks for; where the context comes or goes, all
-/// tickets are listed anew.
+/// mail and those that it sends, and what whoever is next in the line of its context asks for; where the context lands or leaves, all
+/// tickets are listed anew. One that is born was nowhere, so that each Enter to it asks for the same as before.
 #[derive(Drop)]
 pub(crate) struct Listed<'p> {
     pub(crate) engine: Engine<'p>,
@@ -154,6 +155,7 @@ impl<'p> Listed<'p> {
         ensures listed { IsListed self.new }
     {
         states_are_known();
+        states_list();
         done_stays();
         let seen = self.look(label.host, ticket_of(&label.act), &path_of(&label.act));
         self.engine.act(label, part);

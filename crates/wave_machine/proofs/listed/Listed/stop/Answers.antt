@@ -1,4 +1,4 @@
-use Rattle.std.proofs.Common.{◌≡◌, ◌∙◌, ◌+◌, ◌-◌, length, refl, sym, ap, subst, arith}
+use Rattle.std.proofs.Common.{◌≡◌, ◌∙◌, ◌+◌, ◌-◌, length, refl, sym, ap, subst, arith, true≢false}
 use Rattle.std.specs.Prelude.{Result, Ok, Err, OnOk}
 use Rattle.wave_base.specs.declared.numbers.Host.{Host}
 use Rattle.wave_labels.specs.Labels.{label_of}
@@ -12,7 +12,7 @@ use Rattle.wave_effects.specs.Spare.{IsAsLong, SameButRooms}
 use Rattle.wave_effects.proofs.Halting.{cell_at}
 use Rattle.wave_effects.proofs.Labelled.{stood_stopped}
 use Rattle.wave_effects.proofs.Unasked.{same_asks}
-use Rattle.wave_machine.specs.inner.Index.{HasRoom, KeepsMails, Sees, held_at, held_by}
+use Rattle.wave_machine.specs.inner.Index.{HasRoom, KeepsMails, Sees, held_at, held_by, is_queue}
 use Rattle.wave_machine.proofs.Asked.{listed_same, listed_still, room_same}
 use Rattle.wave_machine.proofs.KeptMails.{mails_stopped, numbered_stood}
 use Rattle.wave_machine.proofs.Owned as owned
@@ -65,6 +65,7 @@ update-requires c =
           numbered = numbered_stood c.states_are_known.ensures m (record { start = on.start; state = on.state; stands = on.stands });
           grows = λ one. absurd (let none : new_cells l.act ≡ 0 = ap (λ (z : Label). new_cells z.act) is in omega (arith, one, none));
           sees = sees;
+          born = λ queue. absurd (true≢false (sym queue ∙ ap (λ (z : Label). is_queue z.act) is));
         };
         index = listed.index;
         done = stopped_done c.done_stays.ensures m m' x.done listed.done lease c.args.pause h on c.in-Ok.ensures.enabled c.in-Ok.ensures.stops;
