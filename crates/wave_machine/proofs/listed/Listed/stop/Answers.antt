@@ -107,4 +107,3 @@ pub returns-in-Err-stop-clause-room : goal.returns-in-Err-stop-clause-room
 returns-in-Err-stop-clause-room c =
     let same = c.reserve.ensures.same in
     λ more h. room_same c.args.self.now _ more h same.weight same.len same.capacity
-
