@@ -1,6 +1,7 @@
 //! The labels that begin and end a segment: a Start leases the actor and the record out, and a Stop puts them back.
 
 ghost use Rattle.std.specs.Prelude.{◌≡◌, ◌+◌, ◌-◌, ℕ, Some, true, is_some, length, slice_get, IfOk, IfErr, OnOk, OnErr};
+ghost use Rattle.wave_base.specs.declared.pause.Pause.{Pause};
 ghost use Rattle.wave_states.specs.Labels.{Start};
 ghost use Rattle.code_actor.specs.CodeActors.{Fields};
 ghost use Rattle.context_queue.specs.Entries.{record_of};
@@ -130,13 +131,25 @@ impl<'p> Engine<'p> {
         aim(cell, host, &lease.path, &mut lease.body, peek, pause)
     }
 
-    /// Stop: what memory is wanted for is made first, and then the actor and the record are put back, and what follows goes by the pause.
-    pub fn stop(&mut self, mut lease: Lease, pause: Pause) -> Result<Label, Refused>
-        requires { IsStopping (kept_of self.old) lease pause }
+    /// The host that has the context of a segment that is out, where its Stop is taken.
+    pub fn host_of(&self, lease: &Lease) -> Host
+        requires { (why : Pause) × IsStopping (kept_of self.now) lease.now why }
+        ensures { place_in (kept_of self.now).stores lease.now.path ≡ Some result.0 }
+    {
+        states_are_known();
+        segments_are_known();
+        place_of(self.stores.as_slice(), &lease.path).unwrap()
+    }
+
+    /// Stop, at the host that has the context: what memory is wanted for is made first, and then the actor and the record are put back, and
+    /// what follows goes by the pause.
+    pub fn stop(&mut self, host: Host, mut lease: Lease, pause: Pause) -> Result<Label, Refused>
+        requires stopping { IsStopping (kept_of self.old) lease pause }
+        requires place { place_in (kept_of self.old).stores lease.path ≡ Some host.0 }
         ensures label { IfOk result (λ l. label_of l ≡ stop_of lease l.host.0) }
+        ensures host { IfOk result (λ l. l.host ≡ host) }
         ensures enabled { IfOk result (λ l. CanStop (kept_of self.old) lease pause l.host.0) }
         ensures stops { IfOk result (λ l. Stops (kept_of self.old) lease pause l.host.0 (kept_of self.new)) }
-        ensures place { IfOk result (λ l. place_in (kept_of self.old).stores lease.path ≡ Some l.host.0) }
         ensures moves { IfOk result (λ l. (c : cells.Cell actors.Actor) → slice_get (kept_of self.old).cells (lease.ticket.0 - self.old.first) ≡ Some c → Moves (kept_of self.old) (kept_of self.new) (label_of l) (1 + length c.held.holds)) }
         ensures refused { IfErr result (λ r. (r.lease ≡ lease) × (r.pause ≡ pause)) }
         ensures keeps { OnErr result (Keeps (kept_of self.old) (kept_of self.new)) }
@@ -147,7 +160,6 @@ impl<'p> Engine<'p> {
         states_are_known();
         segments_are_known();
         let (worker, ticket, path) = (lease.worker, lease.ticket, lease.path);
-        let host = place_of(self.stores.as_slice(), &path).unwrap();
         let mail = match self.prepare_stop(host, &mut lease, &pause) {
             Ok(mail) => mail,
             Err(error) => {

@@ -8,14 +8,15 @@ use Rattle.wave_base.specs.Fold.{tickets_from}
 use Rattle.wave_states.specs.Labels.{Label, Admit, Commit}
 use Rattle.wave_theory.proofs.Basics.{none_not}
 use Rattle.wave_machine.specs.declared.ready.Ready.{Ready}
+use Rattle.wave_effects.specs.declared.engine.Engine.{Engine}
 use Rattle.wave_effects.specs.Machines.{Kept, Keeps, IsStood}
 use Rattle.wave_effects.specs.Apart.{AsksTheSame, Moves}
 use Rattle.wave_machine.specs.inner.Asking.{in_order, label_at}
-use Rattle.wave_machine.specs.inner.Index.{IsIndex, asked_at, by_part, has_at, head_in, next_at, HasRoom, IsListed, weight_of}
+use Rattle.wave_machine.specs.inner.Index.{IsIndex, asked_at, by_part, has_at, head_in, next_at, HasRoom, IsListed, SameList, weight_of}
 use Rattle.wave_machine.specs.declared.listed.Listed.{Listed}
 use Rattle.wave_effects.specs.Keeping.{kept_of}
 use Rattle.wave_machine.specs.inner.Done.{AreDone}
-use Rattle.wave_machine.proofs.Elsewhere.{others_ask}
+use Rattle.wave_machine.proofs.Elsewhere.{others_ask, ways_here}
 use Rattle.wave_machine.proofs.Untouched.{kept_done}
 use Rattle.wave_machine.proofs.Weighing.{weight_asks}
 use Rattle.wave_machine.proofs.Ordering.{same_numbered}
@@ -52,7 +53,7 @@ module _ (m m' : Kept) (a : AsksTheSame m m') where
 
   asks_same : (u : ℕ) → m'.first ≤ u → u < m'.first + length m'.cells → asked_at m u ≡ asked_at m' u
   asks_same u low high =
-      others_ask m m' (idle_label (suc u)) 0 (moves_of (suc u)) (ap (has_at []) no_new ∙ sym (ap (has_at []) no_old)) u
+      others_ask m m' (idle_label (suc u)) 0 (moves_of (suc u)) (ways_here m m' (idle_label (suc u)) 0 (moves_of (suc u)) (ap (has_at []) no_new ∙ sym (ap (has_at []) no_old))) u
       (λ e. none_not (sym (ap (next_at []) no_old) ∙ e)) (λ e. none_not (sym (ap (next_at []) no_new) ∙ e)) (λ e. absurd (omega (arith, e))) low high (omega arith)
 
   head_same : head_in m' ≡ head_in m
@@ -79,6 +80,14 @@ listed_same x y listed stood keeps asks items done weight =
       done = subst (AreDone m') (sym done) (kept_done m m' x.done stood keeps listed.done);
       weight = omega (arith, heavy, was, weight);
     }
+
+-- more room is no other list
+pub listed_still : (x y : Listed) → SameList x y → IsListed x → IsListed y
+listed_still x y same listed = record {
+  index = subst (λ (e : Engine). IsIndex (kept_of e) y.index.items) (sym same.engine) (subst (IsIndex (kept_of x.engine)) (sym same.items) listed.index);
+  done = subst (λ (e : Engine). AreDone (kept_of e) y.done) (sym same.engine) (subst (AreDone (kept_of x.engine)) (sym same.done) listed.done);
+  weight = subst (λ (e : Engine). weight_of (kept_of e).cells ≤ y.weight) (sym same.engine) (subst (λ n. weight_of (kept_of x.engine).cells ≤ n) (sym same.weight) listed.weight);
+}
 
 pub room_same : (x y : Listed) (more : ℕ) → HasRoom x more → y.weight ≡ x.weight → vec_len y.index ≡ vec_len x.index → vec_capacity x.index ≤ vec_capacity y.index → HasRoom y more
 room_same x y more h weight len capacity =

@@ -21,14 +21,14 @@ use Rattle.code_actor.specs.CodeActors.{Fields}
 use Rattle.wave_states.specs.Labels.{Act, Label, Grant, Admit, Queue, Visit, Start, Stop, Free, Pass, Land, Commit, path_of, ticket_of}
 use Rattle.wave_states.specs.States as theory
 use Rattle.wave_states.specs.States.{Claim}
-use Rattle.wave_states.specs.Steps.{Deliver, route_by}
+use Rattle.wave_states.specs.Steps.{Born, Deliver, route_by}
 use Rattle.wave_theory.proofs.Basics.{differ, not_same, number_cases, path_cases, path_self}
 use Rattle.wave_effects.specs.declared.actor.Actor.{Actor}
 use Rattle.wave_effects.specs.Machines.{Kept}
 use Rattle.wave_effects.specs.Apart.{AnswersAs, AsksAs, Moves, new_cells}
 use Rattle.wave_machine.specs.inner.Asking.{enter_act, grant_labels, is_claim, is_next, is_next_in, label_at, mail_act, mail_labels, route_at, start_labels, status_labels}
 use Rattle.wave_effects.specs.Keeping.{place_in}
-use Rattle.wave_machine.specs.inner.Index.{KeepsMails, asked_as, asked_at, asked_by, asked_of, cell_at, has_at, next_at, next_of, act_number, sent_at, sent_by, slot_at, slot_by}
+use Rattle.wave_machine.specs.inner.Index.{IsNowhere, KeepsMails, asked_as, asked_at, asked_by, asked_of, cell_at, has_at, next_at, next_of, act_number, sent_at, sent_by, slot_at, slot_by}
 use Rattle.wave_machine.proofs.ListingKinds.{slice_none}
 use Rattle.wave_machine.proofs.ListingLists.{flat_same}
 use Rattle.wave_machine.proofs.Owned.{cell_is, cell_there, slice_some}
@@ -96,6 +96,26 @@ next_false u q (Some st) apart = by_entry (table.get st.store q) apart
     by_entry None h = refl
     by_entry (Some e) h = by_claim (next_in (entry_of e)) h
 
+-- nor has anybody where the context is away
+next_away : (u : ℕ) (q : Path) (o : Option Stores) → has_at q o ≡ false → is_next u q o ≡ false
+next_away u q None away = refl
+next_away u q (Some st) away = by_entry (table.get st.store q) away
+  where
+    by_entry : (e : Option Entry) → is_some e ≡ false → is_next_in u e ≡ false
+    by_entry None h = refl
+    by_entry (Some e) h = absurd (true≢false h)
+
+grants_none : (stores : List Stores) (u : ℕ) (q : Path) → ((h : ℕ) → is_next u q (slice_get stores h) ≡ false) → (o : Option ℕ) → grant_labels stores 0 u q o ≡ []
+grants_none stores u q none None = refl
+grants_none stores u q none (Some h) = ap (λ b. if b then record { worker = 0; host = h; act = Grant u q } ∷ [] else []) (none h)
+
+-- how an Enter goes where the store has the context, and where it has not
+route_has : (q : Path) (st : Stores) (f : ℕ) → has q st ≡ true → route_at (Some st) q f ≡ Deliver
+route_has q st f e = ap (λ b. if b then Deliver else route_by (option_map mark_of (table.get st.gone q)) f) (some_map entry_of (table.get st.store q) ∙ e)
+
+route_away : (q : Path) (st : Stores) (f : ℕ) → has q st ≡ false → route_at (Some st) q f ≡ route_by (option_map mark_of (table.get st.gone q)) f
+route_away q st f e = ap (λ b. if b then Deliver else route_by (option_map mark_of (table.get st.gone q)) f) (some_map entry_of (table.get st.store q) ∙ e)
+
 pub grown_few : (a : Act) → new_cells a ≤ 1
 grown_few (Admit t) = omega arith
 grown_few (Queue t k p) = omega arith
@@ -112,6 +132,12 @@ grown_few (Commit t) = omega arith
 pub asked_mail : (stores : List Stores) (t : ℕ) (c : Cell Actor) (j : ℕ) → j ≢ 0 → asked_as stores t c j ≡ mail_labels stores 0 t j (mail_in c.outbox.mails j)
 asked_mail stores t c zero some = absurd (some refl)
 asked_mail stores t c (suc k) some = refl
+
+-- what a cell's mails ask for stays, and what its status asks for, where that ticket neither was nor is next in the line of the label's context
+pub record SameWays (m m' : Kept) (l : Label) : Type 0 where
+  pub mails : (i u k : ℕ) (c : Cell Actor) → slice_get m.cells i ≡ Some c → mail_labels m'.stores 0 u k (mail_in c.outbox.mails k) ≡ mail_labels m.stores 0 u k (mail_in c.outbox.mails k)
+  pub status : (i u : ℕ) (c : Cell Actor) → slice_get m.cells i ≡ Some c → (next_at (path_of l.act) (slice_get m.stores l.host) ≡ Some u → ⊥) → (next_at (path_of l.act) (slice_get m'.stores l.host) ≡ Some u → ⊥)
+      → status_labels m'.stores 0 u c.status ≡ status_labels m.stores 0 u c.status
 
 module _ (m m' : Kept) (l : Label) (more : ℕ) (moves : Moves m m' l more) where
   abbrev p : Path
@@ -194,6 +220,41 @@ module _ (m m' : Kept) (l : Label) (more : ℕ) (moves : Moves m m' l more) wher
             omega (arith, first, many, few, zero_is, low, high)
       ]
 
+  -- a mail asks for the same where its Enter goes the same way
+  act_same : (u k h : ℕ) (q : Path) (x : Letter) → ((f : ℕ) → route_at (slice_get m'.stores h) q f ≡ route_at (slice_get m.stores h) q f) → mail_act m'.stores u k h q x ≡ mail_act m.stores u k h q x
+  act_same u k h q (letter.Enter number followed peek) same = ap (enter_act u k q) (same followed)
+  act_same u k h q letter.Visit same = refl
+  act_same u k h q letter.Back same = refl
+  act_same u k h q letter.Release same = refl
+  act_same u k h q (letter.Transfer e) same = refl
+
+  module _ (u : ℕ) where
+    next_same : (next_at p (slice_get m.stores l.host) ≡ Some u → ⊥) → (next_at p (slice_get m'.stores l.host) ≡ Some u → ⊥) → (h : ℕ) (q : Path) → is_next u q (slice_get m'.stores h) ≡ is_next u q (slice_get m.stores h)
+    next_same before after h q = elim (own_or h q) [
+      | inl own ↦
+          (λ i. is_next u (own.1 i) (slice_get m'.stores (own.0 i)))
+          ∙ next_false u p (slice_get m'.stores l.host) after
+          ∙ sym (next_false u p (slice_get m.stores l.host) before)
+          ∙ (λ i. is_next u (sym own.1 i) (slice_get m.stores (sym own.0 i)))
+      | inr apart ↦ next_by u q (slice_get m.stores h) (slice_get m'.stores h) (answers h q apart)
+    ]
+
+    -- a status asks for the same where its context stays at its place
+    grants_same : ((h : ℕ) (q : Path) → is_next u q (slice_get m'.stores h) ≡ is_next u q (slice_get m.stores h)) → (q : Path) → place_in m'.stores q ≡ place_in m.stores q → grant_labels m'.stores 0 u q (place_in m'.stores q) ≡ grant_labels m.stores 0 u q (place_in m.stores q)
+    grants_same same q still = ap (grant_labels m'.stores 0 u q) still ∙ by_place (place_in m.stores q)
+      where
+        by_place : (o : Option ℕ) → grant_labels m'.stores 0 u q o ≡ grant_labels m.stores 0 u q o
+        by_place None = refl
+        by_place (Some h) = ap (λ b. if b then record { worker = 0; host = h; act = Grant u q } ∷ [] else []) (same h q)
+
+    starts_same : (q : Path) → place_in m'.stores q ≡ place_in m.stores q → start_labels m'.stores 0 u q (place_in m'.stores q) ≡ start_labels m.stores 0 u q (place_in m.stores q)
+    starts_same q still = ap (start_labels m'.stores 0 u q) still ∙ by_place (place_in m.stores q)
+      where
+        by_place : (o : Option ℕ) → start_labels m'.stores 0 u q o ≡ start_labels m.stores 0 u q o
+        by_place None = refl
+        by_place (Some h) = refl
+
+  -- where the context stays, or stays away
   module _ (here : has_at p (slice_get m'.stores l.host) ≡ has_at p (slice_get m.stores l.host)) where
     has_same : (h : ℕ) (q : Path) → has_at q (slice_get m'.stores h) ≡ has_at q (slice_get m.stores h)
     has_same h q = elim (own_or h q) [
@@ -204,13 +265,6 @@ module _ (m m' : Kept) (l : Label) (more : ℕ) (moves : Moves m m' l more) wher
     place_still : (q : Path) → place_in m'.stores q ≡ place_in m.stores q
     place_still q = position_same (has q) m.stores m'.stores moves.others.as_many_stores (λ i x y e e'. ap (has_at q) (sym e') ∙ has_same i q ∙ ap (has_at q) e)
 
-    -- an Enter goes the same way
-    route_has : (st : Stores) (f : ℕ) → has p st ≡ true → route_at (Some st) p f ≡ Deliver
-    route_has st f e = ap (λ b. if b then Deliver else route_by (option_map mark_of (table.get st.gone p)) f) (some_map entry_of (table.get st.store p) ∙ e)
-
-    route_away : (st : Stores) (f : ℕ) → has p st ≡ false → route_at (Some st) p f ≡ route_by (option_map mark_of (table.get st.gone p)) f
-    route_away st f e = ap (λ b. if b then Deliver else route_by (option_map mark_of (table.get st.gone p)) f) (some_map entry_of (table.get st.store p) ∙ e)
-
     route_own : (f : ℕ) → route_at (slice_get m'.stores l.host) p f ≡ route_at (slice_get m.stores l.host) p f
     route_own f = pair (λ o o'. has_at p o' ≡ has_at p o → route_at o' p f ≡ route_at o p f) l.host (λ e. refl) both here
       where
@@ -218,8 +272,8 @@ module _ (m m' : Kept) (l : Label) (more : ℕ) (moves : Moves m m' l more) wher
         both st st' e e' same = by_has (has p st) refl
           where
             by_has : (b : Bool) → has p st ≡ b → route_at (Some st') p f ≡ route_at (Some st) p f
-            by_has true y = route_has st' f (same ∙ y) ∙ sym (route_has st f y)
-            by_has false n = route_away st' f (same ∙ n) ∙ ap (λ g. route_by (option_map mark_of g) f) (moves.mark st st' e e' n (same ∙ n)) ∙ sym (route_away st f n)
+            by_has true y = route_has p st' f (same ∙ y) ∙ sym (route_has p st f y)
+            by_has false n = route_away p st' f (same ∙ n) ∙ ap (λ g. route_by (option_map mark_of g) f) (moves.mark st st' e e' n (same ∙ n)) ∙ sym (route_away p st f n)
 
     route_same : (h : ℕ) (q : Path) (f : ℕ) → route_at (slice_get m'.stores h) q f ≡ route_at (slice_get m.stores h) q f
     route_same h q f = elim (own_or h q) [
@@ -227,64 +281,107 @@ module _ (m m' : Kept) (l : Label) (more : ℕ) (moves : Moves m m' l more) wher
       | inr apart ↦ route_with q f (slice_get m.stores h) (slice_get m'.stores h) (answers h q apart)
     ]
 
-    act_same : (u k h : ℕ) (q : Path) (x : Letter) → mail_act m'.stores u k h q x ≡ mail_act m.stores u k h q x
-    act_same u k h q (letter.Enter number followed peek) = ap (enter_act u k q) (route_same h q followed)
-    act_same u k h q letter.Visit = refl
-    act_same u k h q letter.Back = refl
-    act_same u k h q letter.Release = refl
-    act_same u k h q (letter.Transfer e) = refl
+    pub ways_here : SameWays m m' l
+    ways_here = record { mails = λ i u k c there. mail_same u k (mail_in c.outbox.mails k); status = λ i u c there before after. status_same u (next_same u before after) c.status }
+      where
+        mail_same : (u k : ℕ) (o : Option Envelope) → mail_labels m'.stores 0 u k o ≡ mail_labels m.stores 0 u k o
+        mail_same u k None = refl
+        mail_same u k (Some e) = ap (label_at 0 e.to.0) (act_same u k e.to.0 e.path e.letter (route_same e.to.0 e.path))
 
-    mail_same : (u k : ℕ) (o : Option Envelope) → mail_labels m'.stores 0 u k o ≡ mail_labels m.stores 0 u k o
-    mail_same u k None = refl
-    mail_same u k (Some e) = ap (label_at 0 e.to.0) (act_same u k e.to.0 e.path e.letter)
+        status_same : (u : ℕ) → ((h : ℕ) (q : Path) → is_next u q (slice_get m'.stores h) ≡ is_next u q (slice_get m.stores h)) → (st : Status) → status_labels m'.stores 0 u st ≡ status_labels m.stores 0 u st
+        status_same u same status.Travelling = refl
+        status_same u same (status.Running q) = refl
+        status_same u same status.Ended = refl
+        status_same u same (status.Waiting q) = grants_same u same q (place_still q)
+        status_same u same (status.Ready q) = starts_same u q (place_still q)
 
-    module _ (u : ℕ) (before : next_at p (slice_get m.stores l.host) ≡ Some u → ⊥) (after : next_at p (slice_get m'.stores l.host) ≡ Some u → ⊥) where
-      next_same : (h : ℕ) (q : Path) → is_next u q (slice_get m'.stores h) ≡ is_next u q (slice_get m.stores h)
-      next_same h q = elim (own_or h q) [
-        | inl own ↦
-            (λ i. is_next u (own.1 i) (slice_get m'.stores (own.0 i)))
-            ∙ next_false u p (slice_get m'.stores l.host) after
-            ∙ sym (next_false u p (slice_get m.stores l.host) before)
-            ∙ (λ i. is_next u (sym own.1 i) (slice_get m.stores (sym own.0 i)))
-        | inr apart ↦ next_by u q (slice_get m.stores h) (slice_get m'.stores h) (answers h q apart)
-      ]
+  -- and where it was nowhere: each Enter to it is to be queued, before as after
+  module _ (nowhere : IsNowhere m p) where
+    place_but : (q : Path) → path_eq q p ≡ false → place_in m'.stores q ≡ place_in m.stores q
+    place_but q d = position_same (has q) m.stores m'.stores moves.others.as_many_stores (λ i x y e e'. ap (has_at q) (sym e') ∙ has_by q (slice_get m.stores i) (slice_get m'.stores i) (answers i q (not_own i)) ∙ ap (has_at q) e)
+      where
+        not_own : (h : ℕ) → (h ≡ l.host) × (q ≡ p) → ⊥
+        not_own h both = true≢false (sym (path_self q) ∙ ap (path_eq q) both.1 ∙ d)
 
-      status_same : (st : Status) → status_labels m'.stores 0 u st ≡ status_labels m.stores 0 u st
-      status_same status.Travelling = refl
-      status_same (status.Running q) = refl
-      status_same status.Ended = refl
-      status_same (status.Waiting q) = ap (grant_labels m'.stores 0 u q) (place_still q) ∙ by_place (place_in m.stores q)
-        where
-          by_place : (o : Option ℕ) → grant_labels m'.stores 0 u q o ≡ grant_labels m.stores 0 u q o
-          by_place None = refl
-          by_place (Some h) = ap (λ b. if b then record { worker = 0; host = h; act = Grant u q } ∷ [] else []) (next_same h q)
-      status_same (status.Ready q) = ap (start_labels m'.stores 0 u q) (place_still q) ∙ by_place (place_in m.stores q)
-        where
-          by_place : (o : Option ℕ) → start_labels m'.stores 0 u q o ≡ start_labels m.stores 0 u q o
-          by_place None = refl
-          by_place (Some h) = refl
+    queued : (u k f : ℕ) → f ≡ 0 → enter_act u k p (route_at (slice_get m'.stores l.host) p f) ≡ enter_act u k p (route_at (slice_get m.stores l.host) p f)
+    queued u k f zero_is = pair (λ o o'. enter_act u k p (route_at o' p f) ≡ enter_act u k p (route_at o p f)) l.host refl both
+      where
+        both : (st st' : Stores) → slice_get m.stores l.host ≡ Some st → slice_get m'.stores l.host ≡ Some st' → enter_act u k p (route_at (Some st') p f) ≡ enter_act u k p (route_at (Some st) p f)
+        both st st' e e' = by_has (has p st') refl
+          where
+            away : has p st ≡ false
+            away = ap (has_at p) (sym e) ∙ nowhere.away l.host
 
-      asked_same : (c c' : Cell Actor) → AsksAs c c' → asked_of m'.stores u c' ≡ asked_of m.stores u c
-      asked_same c c' a =
-          (λ i. status_labels m'.stores 0 u (a.status i) ++ flat_map (λ k. mail_labels m'.stores 0 u k (mail_in (a.mails i) k)) (tickets_from 1 (a.sent i)))
-          ∙ (λ i. status_same c.status i ++ flat_same (λ k. mail_labels m'.stores 0 u k (mail_in c.outbox.mails k)) (λ k. mail_labels m.stores 0 u k (mail_in c.outbox.mails k)) (λ k. mail_same u k (mail_in c.outbox.mails k)) (tickets_from 1 c.outbox.sent) i)
+            born : route_at (Some st) p f ≡ Born
+            born = route_away p st f away ∙ ap (λ g. route_by (option_map mark_of g) f) (nowhere.unmarked l.host st e) ∙ ap (route_by None) zero_is
 
-      -- another ticket asks for the same
-      pub others_ask : (new_cells l.act ≡ 1 → ticket_of l.act ≡ m.first + length m.cells) → m'.first ≤ u → u < m'.first + length m'.cells → u ≢ ticket_of l.act → asked_at m u ≡ asked_at m' u
-      others_ask grows low high apart =
-          let it = two_cells grows u low high apart in
-          ap (asked_by m.stores u) it.old_is ∙ sym (asked_same it.old it.new it.asks) ∙ sym (ap (asked_by m'.stores u) it.new_is)
+            by_has : (b : Bool) → has p st' ≡ b → enter_act u k p (route_at (Some st') p f) ≡ enter_act u k p (route_at (Some st) p f)
+            by_has true y = ap (enter_act u k p) (route_has p st' f y) ∙ sym (ap (enter_act u k p) born)
+            by_has false n = ap (enter_act u k p) (route_away p st' f n ∙ ap (λ g. route_by (option_map mark_of g) f) (moves.mark st st' e e' away n) ∙ sym (route_away p st f away))
+
+    pub ways_born : SameWays m m' l
+    ways_born = record { mails = mails_same; status = λ i u c there before after. status_same i u c there (next_same u before after) c.status refl }
+      where
+        enter_same : (u k f h : ℕ) (q : Path) → (q ≡ p → f ≡ 0) → enter_act u k q (route_at (slice_get m'.stores h) q f) ≡ enter_act u k q (route_at (slice_get m.stores h) q f)
+        enter_same u k f h q zero_is = elim (own_or h q) [
+          | inl own ↦
+              (λ i. enter_act u k (own.1 i) (route_at (slice_get m'.stores (own.0 i)) (own.1 i) f))
+              ∙ queued u k f (zero_is own.1)
+              ∙ (λ i. enter_act u k (sym own.1 i) (route_at (slice_get m.stores (sym own.0 i)) (sym own.1 i) f))
+          | inr apart ↦ ap (enter_act u k q) (route_with q f (slice_get m.stores h) (slice_get m'.stores h) (answers h q apart))
+        ]
+
+        letter_same : (u k h : ℕ) (q : Path) (x : Letter) → ((number followed : ℕ) (peek : Bool) → q ≡ p → x ≡ letter.Enter number followed peek → followed ≡ 0) → mail_act m'.stores u k h q x ≡ mail_act m.stores u k h q x
+        letter_same u k h q (letter.Enter number followed peek) none = enter_same u k followed h q (λ own. none number followed peek own refl)
+        letter_same u k h q letter.Visit none = refl
+        letter_same u k h q letter.Back none = refl
+        letter_same u k h q letter.Release none = refl
+        letter_same u k h q (letter.Transfer e) none = refl
+
+        mails_same : (i u k : ℕ) (c : Cell Actor) → slice_get m.cells i ≡ Some c → mail_labels m'.stores 0 u k (mail_in c.outbox.mails k) ≡ mail_labels m.stores 0 u k (mail_in c.outbox.mails k)
+        mails_same i u k c there = by_mail (mail_in c.outbox.mails k) refl
+          where
+            by_mail : (o : Option Envelope) → mail_in c.outbox.mails k ≡ o → mail_labels m'.stores 0 u k o ≡ mail_labels m.stores 0 u k o
+            by_mail None z = refl
+            by_mail (Some e) z = ap (label_at 0 e.to.0) (letter_same u k e.to.0 e.path e.letter (λ number followed peek own is. nowhere.enters i k c e number followed peek there z own is))
+
+        no_grants : (u : ℕ) → ((h : ℕ) (q : Path) → is_next u q (slice_get m'.stores h) ≡ is_next u q (slice_get m.stores h)) → grant_labels m'.stores 0 u p (place_in m'.stores p) ≡ grant_labels m.stores 0 u p (place_in m.stores p)
+        no_grants u same =
+            let none : (h : ℕ) → is_next u p (slice_get m.stores h) ≡ false = λ h. next_away u p (slice_get m.stores h) (nowhere.away h) in
+            grants_none m'.stores u p (λ h. same h p ∙ none h) (place_in m'.stores p) ∙ sym (grants_none m.stores u p none (place_in m.stores p))
+
+        status_same : (i u : ℕ) (c : Cell Actor) → slice_get m.cells i ≡ Some c → ((h : ℕ) (q : Path) → is_next u q (slice_get m'.stores h) ≡ is_next u q (slice_get m.stores h)) → (st : Status) → c.status ≡ st → status_labels m'.stores 0 u st ≡ status_labels m.stores 0 u st
+        status_same i u c there same status.Travelling z = refl
+        status_same i u c there same (status.Running q) z = refl
+        status_same i u c there same status.Ended z = refl
+        status_same i u c there same (status.Waiting q) z = elim (path_cases q p) [
+          | inl own ↦ (λ i. grant_labels m'.stores 0 u (own i) (place_in m'.stores (own i))) ∙ no_grants u same ∙ (λ i. grant_labels m.stores 0 u (sym own i) (place_in m.stores (sym own i)))
+          | inr d ↦ grants_same u same q (place_but q d)
+        ]
+        status_same i u c there same (status.Ready q) z = elim (path_cases q p) [ inl own ↦ absurd (nowhere.none_ready i c there (z ∙ ap status.Ready own)) | inr d ↦ starts_same u q (place_but q d) ]
+
+  module _ (ways : SameWays m m' l) where
+    asked_same : (u : ℕ) → (next_at p (slice_get m.stores l.host) ≡ Some u → ⊥) → (next_at p (slice_get m'.stores l.host) ≡ Some u → ⊥) → (i : ℕ) (c c' : Cell Actor) → slice_get m.cells i ≡ Some c → AsksAs c c' → asked_of m'.stores u c' ≡ asked_of m.stores u c
+    asked_same u before after i c c' there a =
+        (λ j. status_labels m'.stores 0 u (a.status j) ++ flat_map (λ k. mail_labels m'.stores 0 u k (mail_in (a.mails j) k)) (tickets_from 1 (a.sent j)))
+        ∙ (λ j. ways.status i u c there before after j ++ flat_same (λ k. mail_labels m'.stores 0 u k (mail_in c.outbox.mails k)) (λ k. mail_labels m.stores 0 u k (mail_in c.outbox.mails k)) (λ k. ways.mails i u k c there) (tickets_from 1 c.outbox.sent) j)
+
+    -- another ticket asks for the same
+    pub others_ask : (u : ℕ) → (next_at p (slice_get m.stores l.host) ≡ Some u → ⊥) → (next_at p (slice_get m'.stores l.host) ≡ Some u → ⊥) → (new_cells l.act ≡ 1 → ticket_of l.act ≡ m.first + length m.cells) → m'.first ≤ u → u < m'.first + length m'.cells → u ≢ ticket_of l.act → asked_at m u ≡ asked_at m' u
+    others_ask u before after grows low high apart =
+        let it = two_cells grows u low high apart in
+        ap (asked_by m.stores u) it.old_is ∙ sym (asked_same u before after (u - m.first) it.old it.new (cell_there m u it.old it.old_is).at it.asks) ∙ sym (ap (asked_by m'.stores u) it.new_is)
 
     -- and so does each of its numbers; 0 is the status of who neither was nor is next
     pub others_slot : (new_cells l.act ≡ 1 → ticket_of l.act ≡ m.first + length m.cells) → (u j : ℕ) → m'.first ≤ u → u < m'.first + length m'.cells → u ≢ ticket_of l.act
         → (j ≡ 0 → next_at p (slice_get m.stores l.host) ≡ Some u → ⊥) → (j ≡ 0 → next_at p (slice_get m'.stores l.host) ≡ Some u → ⊥) → slot_at m u j ≡ slot_at m' u j
     others_slot grows u j low high apart before after =
         let it = two_cells grows u low high apart in
-        ap (slot_by m.stores u j) it.old_is ∙ sym (by_number j before after it.old it.new it.asks) ∙ sym (ap (slot_by m'.stores u j) it.new_is)
+        ap (slot_by m.stores u j) it.old_is ∙ sym (by_number j before after it.old it.new (cell_there m u it.old it.old_is).at it.asks) ∙ sym (ap (slot_by m'.stores u j) it.new_is)
       where
-        by_number : (j : ℕ) → (j ≡ 0 → next_at p (slice_get m.stores l.host) ≡ Some u → ⊥) → (j ≡ 0 → next_at p (slice_get m'.stores l.host) ≡ Some u → ⊥) → (c c' : Cell Actor) → AsksAs c c' → asked_as m'.stores u c' j ≡ asked_as m.stores u c j
-        by_number zero before after c c' a = ap (status_labels m'.stores 0 u) a.status ∙ status_same u (before refl) (after refl) c.status
-        by_number (suc k) before after c c' a = ap (λ ms. mail_labels m'.stores 0 u (suc k) (mail_in ms (suc k))) a.mails ∙ mail_same u (suc k) (mail_in c.outbox.mails (suc k))
+        by_number : (j : ℕ) → (j ≡ 0 → next_at p (slice_get m.stores l.host) ≡ Some u → ⊥) → (j ≡ 0 → next_at p (slice_get m'.stores l.host) ≡ Some u → ⊥) → (c c' : Cell Actor) → slice_get m.cells (u - m.first) ≡ Some c → AsksAs c c' → asked_as m'.stores u c' j ≡ asked_as m.stores u c j
+        by_number zero before after c c' there a = ap (status_labels m'.stores 0 u) a.status ∙ ways.status (u - m.first) u c there (before refl) (after refl)
+        by_number (suc k) before after c c' there a = ap (λ ms. mail_labels m'.stores 0 u (suc k) (mail_in ms (suc k))) a.mails ∙ ways.mails (u - m.first) u (suc k) c there
 
     -- of the label's ticket each mail that was sent before, but the label's own, asks for the same
     pub own_slot : KeepsMails m m' l → (j : ℕ) → m'.first ≤ ticket_of l.act → ticket_of l.act < m'.first + length m'.cells → j ≢ 0 → j ≢ act_number l.act → j ≤ sent_at m (ticket_of l.act) → slot_at m (ticket_of l.act) j ≡ slot_at m' (ticket_of l.act) j
@@ -304,7 +401,7 @@ module _ (m m' : Kept) (l : Label) (more : ℕ) (moves : Moves m m' l more) wher
             let kept = keeps.kept (t - m.first) c new.0 here' there.at (ap (slice_get m'.cells) (sym place) ∙ new.1) j small apart m'.stores in
             ap (slot_by m.stores t j) e
             ∙ asked_mail m.stores t c j some
-            ∙ sym (mail_same t j (mail_in c.outbox.mails j))
+            ∙ sym (ways.mails (t - m.first) t j c there.at)
             ∙ sym kept
             ∙ sym (asked_mail m'.stores t new.0 j some)
             ∙ sym (ap (slot_by m'.stores t j) (cell_is m' t low ∙ new.1))

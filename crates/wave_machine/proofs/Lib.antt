@@ -28,3 +28,4 @@ pub mod KeptMails
 pub mod Halves
 pub mod Offered
 pub mod Readied
+pub mod Births

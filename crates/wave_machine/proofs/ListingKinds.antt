@@ -70,7 +70,7 @@ route_is : (st : Stores) (p : Path) (c : Column Fields) (h f : ℕ) → IsAt st 
 route_is st p c h f at = λ i. if some_as (table.get st.store p) (c.store h) at.entry i then Deliver else route_by (sym at.mark i) f
 
 -- a store has a path where the column has an entry
-has_as : (st : Stores) (p : Path) (c : Column Fields) (h : ℕ) → IsAt st p c h → is_some (c.store h) ≡ has p st
+pub has_as : (st : Stores) (p : Path) (c : Column Fields) (h : ℕ) → IsAt st p c h → is_some (c.store h) ≡ has p st
 has_as st p c h at = sym (some_as (table.get st.store p) (c.store h) at.entry) ∙ same (table.get st.store p)
   where
     same : (o : Option E.Entry) → is_some (option_map entry_of o) ≡ is_some o
@@ -110,7 +110,7 @@ module _ (m : Kept) (start : Start) (s : TheState) (shows : Shows m s) (list : C
   sys = plan_actors m.plan.program
 
   -- a host past the stores has neither an entry nor a mark
-  nothing_past : (p : Path) (h : ℕ) → length m.stores ≤ h → ((s.columns p).store h ≡ None) × ((s.columns p).gone h ≡ None)
+  pub nothing_past : (p : Path) (h : ℕ) → length m.stores ≤ h → ((s.columns p).store h ≡ None) × ((s.columns p).gone h ≡ None)
   nothing_past p h l = let many = shows.stores.as_many in let far : m.plan.script.hosts ≤ h = omega (arith, l, many) in list.known.bounds.elsewhere p h far
 
   pub place_same : (p : Path) → place s m.plan.script.hosts p ≡ place_in m.stores p

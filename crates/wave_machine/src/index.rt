@@ -9,7 +9,7 @@ ghost use Rattle.wave_states.specs.Labels.{ticket_of};
 ghost use Rattle.wave_theory.specs.Listed.{kind_rank};
 ghost use Rattle.wave_effects.specs.Apart.{on_head};
 ghost use Rattle.wave_machine.specs.inner.Asking.{in_order, labels_in};
-ghost use Rattle.wave_machine.specs.inner.Index.{Cuts, CutsKind, Goes, IsInner, Parted, by_none, is_before, is_of, kinds_at, act_number, under};
+ghost use Rattle.wave_machine.specs.inner.Index.{Cuts, CutsKind, Goes, IsInner, Parted, by_none, is_before, is_of, is_queue, kinds_at, act_number, under};
 
 use crate::order::{COMMIT, FREE, GRANT, LAND, PASS, QUEUE, START, VISIT, kind_rank};
 use crate::ready::Ready;
@@ -67,6 +67,13 @@ pub(crate) fn is_on_head(act: &Act) -> bool
     ensures { result ≡ on_head (act_of act.now) }
 {
     matches!(act, Act::Admit(_) | Act::Commit(_) | Act::Stop(_, _))
+}
+
+// Whether a context may be born by a label.
+pub(crate) fn is_queue(act: &Act) -> bool
+    ensures { result ≡ is_queue (act_of act.now) }
+{
+    matches!(act, Act::Queue(_, _))
 }
 
 // The number of a label's mail; 0 where it has none.

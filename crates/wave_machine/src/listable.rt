@@ -8,7 +8,7 @@ ghost use Rattle.wave_effects.specs.Machines.{IsReached, TheState};
 ghost use Rattle.wave_machine.specs.inner.Listable.{CanList, one_more};
 
 use plan_actors::PlanActors;
-use wave_theory::{agree, bounds, doable, one_owner, stoppable};
+use wave_theory::{agree, bounds, doable, one_owner, stoppable, trails};
 
 // A state that labels lead to has what its listing needs, and would have it with one worker more, who is idle whatever the others do.
 pub(crate) fn states_list()
@@ -20,4 +20,5 @@ pub(crate) fn states_list()
     doable::<PlanActors>();
     one_owner::<PlanActors>();
     stoppable::<PlanActors>();
+    trails::<PlanActors>();
 }

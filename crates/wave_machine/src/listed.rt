@@ -11,21 +11,21 @@ ghost use Rattle.plan_actors.specs.PlanActors.{plan_actors};
 ghost use Rattle.plan_actors.specs.Plans.{Fits, FitsStart, begin_in};
 ghost use Rattle.wave_effects.specs.Actors.{MayRun};
 ghost use Rattle.wave_effects.specs.Apart.{on_head};
-ghost use Rattle.wave_effects.specs.Keeping.{kept_of, place_in};
+ghost use Rattle.wave_effects.specs.Keeping.{kept_of};
 ghost use Rattle.wave_effects.specs.Machines.{IsEnabled, Keeps, Kept, Stands, Takes, TheState};
 ghost use Rattle.wave_effects.specs.Plans.{plan_of};
 ghost use Rattle.wave_effects.specs.Acts.{is_start, is_step};
 ghost use Rattle.wave_effects.specs.Running.{CanStop, IsStopping, Leases, Stops, stop_of};
-ghost use Rattle.wave_machine.specs.inner.Index.{HasRoom, IsListed, SameList, Sees, Updating, held_at};
+ghost use Rattle.wave_machine.specs.inner.Index.{HasRoom, IsListed, SameList, Sees, Updating};
 ghost use Rattle.wave_effects.specs.Made.{IsPart};
 ghost use Rattle.wave_effects.specs.Spare.{IsAsLong, SameButRooms};
 
 use crate::done::{count_done, done_stays};
 use crate::index::{is_on_head, ticket_of};
+use crate::listable::states_list;
 use crate::looks::{asks_at, line_at, may_leave, path_of, sent_at, share_at};
 use crate::ready::Ready;
 use crate::renewing::{relist_after, relist_head, renew_head};
-use host_map::{HostStore, place_of};
 use std::alloc::Global;
 use wave_base::{Finished, Host, OutOfMemory, Path, Pause, Start, Ticket};
 use wave_effects::{
@@ -34,8 +34,8 @@ use wave_effects::{
 use wave_labels::{Act, Label};
 
 /// An engine, and in canonical order what can be done by an idle worker. A label changes what the status of its ticket asks for, its own
-/// mail and those that it sends, and what whoever is next in the line of its context asks for; where the context comes or goes, all
-/// tickets are listed anew.
+/// mail and those that it sends, and what whoever is next in the line of its context asks for; where the context lands or leaves, all
+/// tickets are listed anew. One that is born was nowhere, so that each Enter to it asks for the same as before.
 #[derive(Drop)]
 pub(crate) struct Listed<'p> {
     pub(crate) engine: Engine<'p>,
@@ -155,6 +155,7 @@ impl<'p> Listed<'p> {
         ensures listed { IsListed self.new }
     {
         states_are_known();
+        states_list();
         done_stays();
         let seen = self.look(label.host, ticket_of(&label.act), &path_of(&label.act));
         self.engine.act(label, part);
@@ -198,41 +199,22 @@ impl<'p> Listed<'p> {
         ensures listed { IsListed self.new }
         ensures room { OnErr result ((more : ℕ) → HasRoom self.old more → HasRoom self.new more) }
     {
-        let more = may_leave(&self.engine, lease.ticket);
-        match self.reserve(more) {
-            Ok(()) => self.stop_in_room(lease, pause),
-            Err(error) => Err(Refused {
-                lease,
-                pause,
-                error,
-            }),
-        }
-    }
-
-    // The same, where the index has room for it.
-    fn stop_in_room(&mut self, lease: Lease, pause: Pause) -> Result<Label, Refused>
-        requires stopping { IsStopping (kept_of self.old.engine) lease pause }
-        requires listed { IsListed self.old }
-        requires room { HasRoom self.old (1 + held_at (kept_of self.old.engine) lease.ticket.0) }
-        ensures label { IfOk result (λ l. label_of l ≡ stop_of lease l.host.0) }
-        ensures enabled { IfOk result (λ l. CanStop (kept_of self.old.engine) lease pause l.host.0) }
-        ensures stops { IfOk result (λ l. Stops (kept_of self.old.engine) lease pause l.host.0 (kept_of self.new.engine)) }
-        ensures refused { IfErr result (λ r. (r.lease ≡ lease) × (r.pause ≡ pause)) }
-        ensures keeps { OnErr result (Keeps (kept_of self.old.engine) (kept_of self.new.engine)) }
-        ensures same { OnErr result (SameButRooms (kept_of self.old.engine) (kept_of self.new.engine)) }
-        ensures long { OnErr result (IsAsLong self.old.engine self.new.engine) }
-        ensures plan { self.new.engine.plan ≡ self.old.engine.plan }
-        ensures listed { IsListed self.new }
-        ensures room { OnErr result ((more : ℕ) → HasRoom self.old more → HasRoom self.new more) }
-    {
         states_are_known();
         heads_are_known();
         segments_are_known();
         done_stays();
         let (ticket, path) = (lease.ticket, lease.path);
-        let host = place_or_first(&self.engine.stores, &path);
+        let more = may_leave(&self.engine, ticket);
+        if let Err(error) = self.reserve(more) {
+            return Err(Refused {
+                lease,
+                pause,
+                error,
+            });
+        }
+        let host = self.engine.host_of(&lease);
         let seen = self.look(host, ticket, &path);
-        match self.engine.stop(lease, pause) {
+        match self.engine.stop(host, lease, pause) {
             Ok(label) => {
                 self.update(&label, seen);
                 Ok(label)
@@ -279,15 +261,4 @@ fn changes_head(whole: bool, act: &Act) -> bool
     ensures { result ≡ (whole || on_head (act_of act.now)) }
 {
     whole || is_on_head(act)
-}
-
-// The host that has a context; the first one where none has it.
-fn place_or_first(stores: &[HostStore], path: &Path) -> Host
-    requires { length stores.now ≤ 8 }
-    ensures { (h : ℕ) → place_in stores.now path.now ≡ Some h → result.0 ≡ h }
-{
-    match place_of(stores, path) {
-        Some(host) => host,
-        None => Host(0),
-    }
 }

@@ -15,11 +15,13 @@ ghost use Rattle.wave_machine.specs.inner.Asking.{admit_labels, in_order, label_
 ghost use Rattle.wave_effects.specs.Sized.{IsListable, IsNumbered};
 ghost use Rattle.wave_machine.specs.inner.Done.{AreDone};
 ghost use Rattle.wave_machine.specs.inner.Others.{but};
-ghost use Rattle.wave_machine.specs.inner.Index.{IsHead, IsInner, Lists, ListsNew, Relists, RelistsBoth, RelistsNear, RelistsNext, RelistsOwn, RelistsStatus, Taken, asked_as, asked_at, asked_of, asks_at, by_none, by_part, head_in, head_left, is_admit, next_at, act_number, share_of, weight_of};
+ghost use Rattle.wave_machine.specs.inner.Index.{IsHead, IsInner, Lists, ListsNew, Relists, RelistsBoth, RelistsNear, RelistsNext, RelistsOwn, RelistsStatus, Taken, asked_as, asked_at, asked_of, asks_at, by_none, by_part, head_in, head_left, is_admit, is_queue, next_at, act_number, share_of, weight_of};
 ghost use Rattle.wave_effects.specs.Keeping.{kept_of};
 
 use crate::asking::{admit_label, commit_label, mail_label, status_label};
-use crate::index::{act_number, cut_admit, cut_commit, cut_slot, is_at, put_some, ticket_of};
+use crate::index::{
+    act_number, cut_admit, cut_commit, cut_slot, is_at, is_queue, put_some, ticket_of,
+};
 use crate::listed::Seen;
 use crate::looks::{asks_at, cell_at, line_at, path_of};
 use crate::order::{ADMIT, GRANT, kind_rank};
@@ -27,7 +29,7 @@ use crate::ready::Ready;
 use event_cells::{Cell, Envelope};
 use wave_base::{Ticket, Worker};
 use wave_effects::{Actor, Engine};
-use wave_labels::{Label, MailId};
+use wave_labels::{Act, Label, MailId};
 
 // Lists anew what all tickets ask for. The first tickets, so many, are done.
 pub(crate) fn relist_all(engine: &Engine, done: usize, index: &mut Vec<Ready>)
@@ -45,7 +47,7 @@ pub(crate) fn relist_all(engine: &Engine, done: usize, index: &mut Vec<Ready>)
     }
 }
 
-// Lists anew what a label changes that neither brings its context nor takes it away: what the ticket's status asks for and the
+// Lists anew what a label changes by which its context stays, or stays away, or is born: what the ticket's status asks for and the
 // label's mail, the mails that it sent, and who was next in the line of the context, and who is, where they are others.
 fn relist_near(
     engine: &Engine,
@@ -198,8 +200,9 @@ fn list_new(engine: &Engine, ticket: Ticket, sent: u32, index: &mut Vec<Ready>)
     }
 }
 
-// Lists anew what a label that was taken has changed: where its context came or went, what all tickets ask for. The first tickets,
-// so many, are done. Answers whether all was listed anew, so that nothing of the head's is left in the list.
+// Lists anew what a label that was taken has changed: where its context landed or left, what all tickets ask for. The first tickets,
+// so many, are done. At a birth no Enter goes another way. Answers whether all was listed anew, so that nothing of the head's is left in
+// the list.
 pub(crate) fn relist_after(
     engine: &Engine,
     label: &Label,
@@ -216,7 +219,7 @@ pub(crate) fn relist_after(
     ensures capacity { vec_capacity index.new ≡ vec_capacity index.old }
 {
     let (here, next) = line_at(engine, label.host, &path_of(&label.act));
-    if is_same(here, seen.here) {
+    if is_near(is_same(here, seen.here), &label.act) {
         relist_near(engine, label, seen, next, index);
         false
     } else {
@@ -332,6 +335,14 @@ fn other(next: Option<Ticket>, ticket: Ticket) -> Option<Ticket>
         Some(one) => { if one.0 == ticket.0 { None } else { Some(one) } }
         None => None,
     }
+}
+
+// Whether no Enter goes another way after a label: its context stays, or stays away, or the label is a Queue, by which one is born that
+// was nowhere.
+fn is_near(same: bool, act: &Act) -> bool
+    ensures { result ≡ (same || is_queue (act_of act.now)) }
+{
+    same || is_queue(act)
 }
 
 // Whether two tests say the same.

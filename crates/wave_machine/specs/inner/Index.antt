@@ -1,5 +1,5 @@
 -- The list of what can be done, as it is kept from label to label: its order, the parts in which it is searched, and what each ticket has in it.
-use Rattle.std.specs.Prelude.{◌≡◌, ◌≢◌, ◌≤◌, ◌<◌, ◌+◌, ◌^◌, ◌-◌, ◌&&◌, ◌||◌, ◌==◌, ℕ, zero, suc, Bool, true, false, if◌then◌else◌, List, [], ◌∷◌, ◌++◌, filter, flat_map, length, map, nat_lt, not, Option, Some, None, option_map, slice_get, vec_len, vec_capacity}
+use Rattle.std.specs.Prelude.{◌≡◌, ◌≢◌, ◌⊎◌, ◌≤◌, ◌<◌, ◌+◌, ◌^◌, ◌-◌, ◌&&◌, ◌||◌, ◌==◌, ℕ, zero, suc, Bool, true, false, if◌then◌else◌, List, [], ◌∷◌, ◌++◌, filter, flat_map, length, map, nat_lt, not, Option, Some, None, option_map, slice_get, vec_len, vec_capacity}
 use Rattle.std.specs.List.{AllByRecursion}
 use Rattle.std.specs.FinMap as table
 use Rattle.wave_base.specs.declared.numbers.Ticket.{Ticket}
@@ -10,7 +10,9 @@ use Rattle.wave_labels.specs.declared.label.Label as program
 use Rattle.wave_labels.specs.Labels.{act_of}
 use Rattle.context_queue.specs.declared.entry.Entry.{Entry}
 use Rattle.context_queue.specs.Entries.{entry_of, next_in}
+use Rattle.migration_core.specs.declared.mail.Letter.TheVariants as letter
 use Rattle.event_cells.specs.declared.cell.Cell.{Cell}
+use Rattle.event_cells.specs.declared.outbox.Envelope.{Envelope}
 use Rattle.event_cells.specs.declared.status.Status.{Status}
 use Rattle.event_cells.specs.declared.status.Status.TheVariants as status
 use Rattle.event_cells.specs.Keeps.{mail_in}
@@ -338,7 +340,19 @@ pub record KeepsMails (m m' : Kept) (l : Label) : Type 0 where
   pub sent : (i : ℕ) (c c' : Cell Actor) → m.first + i ≡ ticket_of l.act → slice_get m.cells i ≡ Some c → slice_get m'.cells i ≡ Some c' → c.outbox.sent ≤ c'.outbox.sent
   pub number : act_number l.act ≤ sent_at m (ticket_of l.act)
 
--- a label was taken, before which so much was seen
+-- by it a context may be born
+abbrev pub is_queue : Act → Bool
+is_queue (Queue t k p) = true
+is_queue _ = false
+
+-- No host has the context, and none has a mark for it; each Enter to it has followed none, and nobody is ready there.
+pub record IsNowhere (m : Kept) (p : Path) : Type 0 where
+  pub away : (h : ℕ) → has_at p (slice_get m.stores h) ≡ false
+  pub unmarked : (h : ℕ) (st : Stores) → slice_get m.stores h ≡ Some st → table.get st.gone p ≡ None
+  pub enters : (i k : ℕ) (c : Cell Actor) (e : Envelope) (number followed : ℕ) (peek : Bool) → slice_get m.cells i ≡ Some c → mail_in c.outbox.mails k ≡ Some e → e.path ≡ p → e.letter ≡ letter.Enter number followed peek → followed ≡ 0
+  pub none_ready : (i : ℕ) (c : Cell Actor) → slice_get m.cells i ≡ Some c → c.status ≡ status.Ready p → ⊥
+
+-- A label was taken, before which so much was seen. A Queue leaves its context where it is, or the context was nowhere.
 pub record Taken (m m' : Kept) (l : Label) (seen : Seen) (more : ℕ) : Type 0 where
   pub stands : (start : Start) × (s : TheState) × Stands m' start s
   pub moves : Moves m m' l more
@@ -346,6 +360,7 @@ pub record Taken (m m' : Kept) (l : Label) (seen : Seen) (more : ℕ) : Type 0 w
   pub numbered : (i : ℕ) (c : Cell Actor) → slice_get m.cells i ≡ Some c → IsNumbered c.outbox
   pub grows : new_cells l.act ≡ 1 → ticket_of l.act ≡ m.first + length m.cells
   pub sees : Sees m l.host (ticket_of l.act) (path_of l.act) seen
+  pub born : is_queue l.act ≡ true → (has_at (path_of l.act) (slice_get m'.stores l.host) ≡ has_at (path_of l.act) (slice_get m.stores l.host)) ⊎ IsNowhere m (path_of l.act)
 
 -- and the list is still that of what was kept before
 pub record Updating (m : Kept) (x : Listed) (l : Label) (seen : Seen) (more : ℕ) : Type 0 where

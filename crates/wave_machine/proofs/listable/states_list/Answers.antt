@@ -32,6 +32,7 @@ returns c = record {
           doable = c.doable.ensures k n b plan.script.batches is_begin is_plan labels s reached;
           stoppable = c.stoppable.ensures k n b plan.script.batches is_begin is_plan labels s reached;
           owner = c.one_owner.ensures k n b plan.script.batches is_begin is_plan labels s reached;
+          trails = c.trails.ensures k n b plan.script.batches is_begin is_plan labels s reached;
           known = record {
             bounds = c.bounds.ensures k n b plan.script.batches is_begin is_plan labels s reached;
             agree = c.agree.ensures k n b plan.script.batches is_begin is_plan labels s reached;

@@ -6,6 +6,7 @@ use Rattle.wave_effects.specs.Actors.{MayRun}
 use Rattle.wave_effects.specs.Keeping.{kept_of}
 use Rattle.wave_effects.specs.Machines.{Takes}
 use Rattle.wave_machine.specs.inner.Index.{Sees}
+use Rattle.wave_machine.proofs.Births.{begins_not}
 use Rattle.wave_machine.proofs.Grows.{admit_grows}
 use Rattle.wave_machine.proofs.KeptMails.{mails_taken, numbered_stood}
 use Rattle.wave_effects.proofs.Labelled.{stood_after}
@@ -31,6 +32,7 @@ update-requires c =
           numbered = numbered_stood c.states_are_known.ensures m (record { start = on.start; state = on.state; stands = on.stands });
           grows = admit_grows m l on;
           sees = sees;
+          born = λ queue. absurd (begins_not c.args.label.now.act c.requires.kind queue);
         };
         index = c.requires.listed.index;
         done = taken_done c.done_stays.ensures m m' x.done c.requires.listed.done l on c.act_start-lease.ensures.takes;
