@@ -1,5 +1,5 @@
 -- What is made beforehand changes nothing of the list.
-use Rattle.std.proofs.Common.{◌≡◌, ◌∙◌, ℕ, suc, ◌+◌, ◌<◌, ◌≤◌, List, [], ◌∷◌, ◌++◌, length, None, refl, sym, ap, subst, arith}
+use Rattle.std.proofs.Common.{◌≡◌, ◌∙◌, ℕ, suc, ◌+◌, ◌<◌, ◌≤◌, false, List, [], ◌∷◌, ◌++◌, length, None, refl, sym, ap, subst, arith}
 use Rattle.std.specs.Prelude.{flat_map, option_map, slice_get, vec_len, vec_capacity}
 use Rattle.std.proofs.lemmas.Option.{slice_get_within}
 use Rattle.wave_base.specs.declared.numbers.Ticket.{Ticket}
@@ -53,8 +53,8 @@ module _ (m m' : Kept) (a : AsksTheSame m m') where
 
   asks_same : (u : ℕ) → m'.first ≤ u → u < m'.first + length m'.cells → asked_at m u ≡ asked_at m' u
   asks_same u low high =
-      others_ask m m' (idle_label (suc u)) 0 (moves_of (suc u)) (ways_here m m' (idle_label (suc u)) 0 (moves_of (suc u)) (ap (has_at []) no_new ∙ sym (ap (has_at []) no_old))) u
-      (λ e. none_not (sym (ap (next_at []) no_old) ∙ e)) (λ e. none_not (sym (ap (next_at []) no_new) ∙ e)) (λ e. absurd (omega (arith, e))) low high (omega arith)
+      others_ask m m' (idle_label (suc u)) 0 (moves_of (suc u)) false (ways_here m m' (idle_label (suc u)) 0 (moves_of (suc u)) (ap (has_at []) no_new ∙ sym (ap (has_at []) no_old))) u
+      (λ e. none_not (sym (ap (next_at []) no_old) ∙ e)) (λ e. none_not (sym (ap (next_at []) no_new) ∙ e)) refl (λ e. absurd (omega (arith, e))) low high (omega arith)
 
   head_same : head_in m' ≡ head_in m
   head_same =

@@ -1,5 +1,5 @@
 -- What a label leaves of what other tickets ask for.
-use Rattle.std.proofs.Common.{◌≡◌, ◌≢◌, ◌∙◌, ◌⊎◌, inl, inr, ℕ, zero, suc, ◌+◌, ◌-◌, ◌<◌, ◌≤◌, ◌==◌, Bool, true, false, cond, not, List, [], ◌∷◌, ◌++◌, length, Option, Some, None, is_some, refl, sym, ap, arith, position, true≢false}
+use Rattle.std.proofs.Common.{◌≡◌, ◌≢◌, ◌∙◌, ◌⊎◌, inl, inr, ℕ, zero, suc, ◌+◌, ◌-◌, ◌<◌, ◌≤◌, ◌==◌, ◌&&◌, Bool, true, false, cond, not, List, [], ◌∷◌, ◌++◌, length, Option, Some, None, is_some, refl, sym, ap, arith, position, true≢false}
 use Rattle.std.specs.Prelude.{flat_map, if◌then◌else◌, nat_lt, option_map, slice_get}
 use Rattle.std.specs.List.{prefix_len}
 use Rattle.std.specs.FinMap as table
@@ -22,13 +22,13 @@ use Rattle.wave_states.specs.Labels.{Act, Label, Grant, Admit, Queue, Visit, Sta
 use Rattle.wave_states.specs.States as theory
 use Rattle.wave_states.specs.States.{Claim}
 use Rattle.wave_states.specs.Steps.{Born, Deliver, route_by}
-use Rattle.wave_theory.proofs.Basics.{differ, not_same, number_cases, path_cases, path_self}
+use Rattle.wave_theory.proofs.Basics.{differ, not_same, number_cases, number_self, path_cases, path_self}
 use Rattle.wave_effects.specs.declared.actor.Actor.{Actor}
 use Rattle.wave_effects.specs.Machines.{Kept}
 use Rattle.wave_effects.specs.Apart.{AnswersAs, AsksAs, Moves, new_cells}
 use Rattle.wave_machine.specs.inner.Asking.{enter_act, grant_labels, is_claim, is_next, is_next_in, label_at, mail_act, mail_labels, route_at, start_labels, status_labels}
 use Rattle.wave_effects.specs.Keeping.{place_in}
-use Rattle.wave_machine.specs.inner.Index.{IsNowhere, KeepsMails, asked_as, asked_at, asked_by, asked_of, cell_at, has_at, next_at, next_of, act_number, sent_at, sent_by, slot_at, slot_by}
+use Rattle.wave_machine.specs.inner.Index.{IsAlone, IsNowhere, KeepsMails, is_enter, is_enter_in, mail_at, mail_by, asked_as, asked_at, asked_by, asked_of, cell_at, has_at, next_at, next_of, act_number, sent_at, sent_by, slot_at, slot_by}
 use Rattle.wave_machine.proofs.ListingKinds.{slice_none}
 use Rattle.wave_machine.proofs.ListingLists.{flat_same}
 use Rattle.wave_machine.proofs.Owned.{cell_is, cell_there, slice_some}
@@ -133,10 +133,11 @@ pub asked_mail : (stores : List Stores) (t : ℕ) (c : Cell Actor) (j : ℕ) →
 asked_mail stores t c zero some = absurd (some refl)
 asked_mail stores t c (suc k) some = refl
 
--- what a cell's mails ask for stays, and what its status asks for, where that ticket neither was nor is next in the line of the label's context
-pub record SameWays (m m' : Kept) (l : Label) : Type 0 where
-  pub mails : (i u k : ℕ) (c : Cell Actor) → slice_get m.cells i ≡ Some c → mail_labels m'.stores 0 u k (mail_in c.outbox.mails k) ≡ mail_labels m.stores 0 u k (mail_in c.outbox.mails k)
-  pub status : (i u : ℕ) (c : Cell Actor) → slice_get m.cells i ≡ Some c → (next_at (path_of l.act) (slice_get m.stores l.host) ≡ Some u → ⊥) → (next_at (path_of l.act) (slice_get m'.stores l.host) ≡ Some u → ⊥)
+-- What a cell's mails ask for stays, but for the Enters to the label's context where that moved; and what its status asks for, where it is another
+-- ticket that neither was nor is next in the line of that context.
+pub record SameWays (m m' : Kept) (l : Label) (moved : Bool) : Type 0 where
+  pub mails : (i u k : ℕ) (c : Cell Actor) → slice_get m.cells i ≡ Some c → (moved && is_enter l.host (path_of l.act) (mail_in c.outbox.mails k)) ≡ false → mail_labels m'.stores 0 u k (mail_in c.outbox.mails k) ≡ mail_labels m.stores 0 u k (mail_in c.outbox.mails k)
+  pub status : (i u : ℕ) (c : Cell Actor) → slice_get m.cells i ≡ Some c → m.first + i ≢ ticket_of l.act → (next_at (path_of l.act) (slice_get m.stores l.host) ≡ Some u → ⊥) → (next_at (path_of l.act) (slice_get m'.stores l.host) ≡ Some u → ⊥)
       → status_labels m'.stores 0 u c.status ≡ status_labels m.stores 0 u c.status
 
 module _ (m m' : Kept) (l : Label) (more : ℕ) (moves : Moves m m' l more) where
@@ -180,6 +181,9 @@ module _ (m m' : Kept) (l : Label) (more : ℕ) (moves : Moves m m' l more) wher
       by_host : (h ≡ l.host) ⊎ ((h == l.host) ≡ false) → ((h ≡ l.host) × (q ≡ p)) ⊎ ((h ≡ l.host) × (q ≡ p) → ⊥)
       by_host (inl e) = by_path e (path_cases q p)
       by_host (inr d) = inr (λ both. not_same h l.host d both.0)
+
+  pub has_elsewhere : (h : ℕ) (q : Path) → ((h ≡ l.host) × (q ≡ p) → ⊥) → has_at q (slice_get m'.stores h) ≡ has_at q (slice_get m.stores h)
+  has_elsewhere h q apart = has_by q (slice_get m.stores h) (slice_get m'.stores h) (answers h q apart)
 
   -- the cells of another ticket, before and after
   record TwoCells (u : ℕ) : Type 0 where
@@ -281,8 +285,8 @@ module _ (m m' : Kept) (l : Label) (more : ℕ) (moves : Moves m m' l more) wher
       | inr apart ↦ route_with q f (slice_get m.stores h) (slice_get m'.stores h) (answers h q apart)
     ]
 
-    pub ways_here : SameWays m m' l
-    ways_here = record { mails = λ i u k c there. mail_same u k (mail_in c.outbox.mails k); status = λ i u c there before after. status_same u (next_same u before after) c.status }
+    pub ways_here : SameWays m m' l false
+    ways_here = record { mails = λ i u k c there not. mail_same u k (mail_in c.outbox.mails k); status = λ i u c there other before after. status_same u (next_same u before after) c.status }
       where
         mail_same : (u k : ℕ) (o : Option Envelope) → mail_labels m'.stores 0 u k o ≡ mail_labels m.stores 0 u k o
         mail_same u k None = refl
@@ -295,14 +299,29 @@ module _ (m m' : Kept) (l : Label) (more : ℕ) (moves : Moves m m' l more) wher
         status_same u same (status.Waiting q) = grants_same u same q (place_still q)
         status_same u same (status.Ready q) = starts_same u q (place_still q)
 
+  place_but : (q : Path) → path_eq q p ≡ false → place_in m'.stores q ≡ place_in m.stores q
+  place_but q d = position_same (has q) m.stores m'.stores moves.others.as_many_stores (λ i x y e e'. ap (has_at q) (sym e') ∙ has_by q (slice_get m.stores i) (slice_get m'.stores i) (answers i q (not_own i)) ∙ ap (has_at q) e)
+    where
+      not_own : (h : ℕ) → (h ≡ l.host) × (q ≡ p) → ⊥
+      not_own h both = true≢false (sym (path_self q) ∙ ap (path_eq q) both.1 ∙ d)
+
+  -- where nobody has a Grant or a Start at the context, before as after
+  module _ (u : ℕ) (none : (h : ℕ) → is_next u p (slice_get m.stores h) ≡ false) (same : (h : ℕ) (q : Path) → is_next u q (slice_get m'.stores h) ≡ is_next u q (slice_get m.stores h)) where
+    no_grants : grant_labels m'.stores 0 u p (place_in m'.stores p) ≡ grant_labels m.stores 0 u p (place_in m.stores p)
+    no_grants = grants_none m'.stores u p (λ h. same h p ∙ none h) (place_in m'.stores p) ∙ sym (grants_none m.stores u p none (place_in m.stores p))
+
+    status_but : (st : Status) → (st ≡ status.Ready p → ⊥) → status_labels m'.stores 0 u st ≡ status_labels m.stores 0 u st
+    status_but status.Travelling ready = refl
+    status_but (status.Running q) ready = refl
+    status_but status.Ended ready = refl
+    status_but (status.Waiting q) ready = elim (path_cases q p) [
+      | inl own ↦ (λ i. grant_labels m'.stores 0 u (own i) (place_in m'.stores (own i))) ∙ no_grants ∙ (λ i. grant_labels m.stores 0 u (sym own i) (place_in m.stores (sym own i)))
+      | inr d ↦ grants_same u same q (place_but q d)
+    ]
+    status_but (status.Ready q) ready = elim (path_cases q p) [ inl own ↦ absurd (ready (ap status.Ready own)) | inr d ↦ starts_same u q (place_but q d) ]
+
   -- and where it was nowhere: each Enter to it is to be queued, before as after
   module _ (nowhere : IsNowhere m p) where
-    place_but : (q : Path) → path_eq q p ≡ false → place_in m'.stores q ≡ place_in m.stores q
-    place_but q d = position_same (has q) m.stores m'.stores moves.others.as_many_stores (λ i x y e e'. ap (has_at q) (sym e') ∙ has_by q (slice_get m.stores i) (slice_get m'.stores i) (answers i q (not_own i)) ∙ ap (has_at q) e)
-      where
-        not_own : (h : ℕ) → (h ≡ l.host) × (q ≡ p) → ⊥
-        not_own h both = true≢false (sym (path_self q) ∙ ap (path_eq q) both.1 ∙ d)
-
     queued : (u k f : ℕ) → f ≡ 0 → enter_act u k p (route_at (slice_get m'.stores l.host) p f) ≡ enter_act u k p (route_at (slice_get m.stores l.host) p f)
     queued u k f zero_is = pair (λ o o'. enter_act u k p (route_at o' p f) ≡ enter_act u k p (route_at o p f)) l.host refl both
       where
@@ -319,8 +338,8 @@ module _ (m m' : Kept) (l : Label) (more : ℕ) (moves : Moves m m' l more) wher
             by_has true y = ap (enter_act u k p) (route_has p st' f y) ∙ sym (ap (enter_act u k p) born)
             by_has false n = ap (enter_act u k p) (route_away p st' f n ∙ ap (λ g. route_by (option_map mark_of g) f) (moves.mark st st' e e' away n) ∙ sym (route_away p st f away))
 
-    pub ways_born : SameWays m m' l
-    ways_born = record { mails = mails_same; status = λ i u c there before after. status_same i u c there (next_same u before after) c.status refl }
+    pub ways_born : SameWays m m' l false
+    ways_born = record { mails = λ i u k c there not. mails_same i u k c there; status = λ i u c there other before after. status_but u (λ h. next_away u p (slice_get m.stores h) (nowhere.away h)) (next_same u before after) c.status (nowhere.none_ready i c there) }
       where
         enter_same : (u k f h : ℕ) (q : Path) → (q ≡ p → f ≡ 0) → enter_act u k q (route_at (slice_get m'.stores h) q f) ≡ enter_act u k q (route_at (slice_get m.stores h) q f)
         enter_same u k f h q zero_is = elim (own_or h q) [
@@ -345,47 +364,69 @@ module _ (m m' : Kept) (l : Label) (more : ℕ) (moves : Moves m m' l more) wher
             by_mail None z = refl
             by_mail (Some e) z = ap (label_at 0 e.to.0) (letter_same u k e.to.0 e.path e.letter (λ number followed peek own is. nowhere.enters i k c e number followed peek there z own is))
 
-        no_grants : (u : ℕ) → ((h : ℕ) (q : Path) → is_next u q (slice_get m'.stores h) ≡ is_next u q (slice_get m.stores h)) → grant_labels m'.stores 0 u p (place_in m'.stores p) ≡ grant_labels m.stores 0 u p (place_in m.stores p)
-        no_grants u same =
-            let none : (h : ℕ) → is_next u p (slice_get m.stores h) ≡ false = λ h. next_away u p (slice_get m.stores h) (nowhere.away h) in
-            grants_none m'.stores u p (λ h. same h p ∙ none h) (place_in m'.stores p) ∙ sym (grants_none m.stores u p none (place_in m.stores p))
+  -- and where it came or went: each Enter but those to it goes the same way
+  module _ (alone : IsAlone m l) where
+    none_next : (u : ℕ) → (next_at p (slice_get m.stores l.host) ≡ Some u → ⊥) → (h : ℕ) → is_next u p (slice_get m.stores h) ≡ false
+    none_next u before h = elim (number_cases h l.host) [
+      | inl here ↦ ap (λ n. is_next u p (slice_get m.stores n)) here ∙ next_false u p (slice_get m.stores l.host) before
+      | inr d ↦ next_away u p (slice_get m.stores h) (alone.elsewhere h (not_same h l.host d))
+    ]
 
-        status_same : (i u : ℕ) (c : Cell Actor) → slice_get m.cells i ≡ Some c → ((h : ℕ) (q : Path) → is_next u q (slice_get m'.stores h) ≡ is_next u q (slice_get m.stores h)) → (st : Status) → c.status ≡ st → status_labels m'.stores 0 u st ≡ status_labels m.stores 0 u st
-        status_same i u c there same status.Travelling z = refl
-        status_same i u c there same (status.Running q) z = refl
-        status_same i u c there same status.Ended z = refl
-        status_same i u c there same (status.Waiting q) z = elim (path_cases q p) [
-          | inl own ↦ (λ i. grant_labels m'.stores 0 u (own i) (place_in m'.stores (own i))) ∙ no_grants u same ∙ (λ i. grant_labels m.stores 0 u (sym own i) (place_in m.stores (sym own i)))
-          | inr d ↦ grants_same u same q (place_but q d)
+    pub ways_alone : SameWays m m' l true
+    ways_alone = record {
+      mails = λ i u k c there not. mail_same u k (mail_in c.outbox.mails k) not;
+      status = λ i u c there other before after. status_but u (none_next u before) (next_same u before after) c.status (alone.none_ready i c other there);
+    }
+      where
+        letter_same : (u k h : ℕ) (q : Path) (x : Letter) → ((h == l.host) && (path_eq q p && is_enter_in x)) ≡ false → mail_act m'.stores u k h q x ≡ mail_act m.stores u k h q x
+        letter_same u k h q (letter.Enter number followed peek) not = elim (own_or h q) [
+          | inl own ↦ (let enters : ((h == l.host) && (path_eq q p && true)) ≡ true = λ i. number_is_here h own.0 i && (path_is_here q own.1 i && true) in absurd (true≢false (sym enters ∙ not)))
+          | inr apart ↦ ap (enter_act u k q) (route_with q followed (slice_get m.stores h) (slice_get m'.stores h) (answers h q apart))
         ]
-        status_same i u c there same (status.Ready q) z = elim (path_cases q p) [ inl own ↦ absurd (nowhere.none_ready i c there (z ∙ ap status.Ready own)) | inr d ↦ starts_same u q (place_but q d) ]
+          where
+            number_is_here : (h : ℕ) → h ≡ l.host → (h == l.host) ≡ true
+            number_is_here h e = ap (λ n. h == n) (sym e) ∙ number_self h
 
-  module _ (ways : SameWays m m' l) where
-    asked_same : (u : ℕ) → (next_at p (slice_get m.stores l.host) ≡ Some u → ⊥) → (next_at p (slice_get m'.stores l.host) ≡ Some u → ⊥) → (i : ℕ) (c c' : Cell Actor) → slice_get m.cells i ≡ Some c → AsksAs c c' → asked_of m'.stores u c' ≡ asked_of m.stores u c
-    asked_same u before after i c c' there a =
+            path_is_here : (q : Path) → q ≡ p → path_eq q p ≡ true
+            path_is_here q e = ap (path_eq q) (sym e) ∙ path_self q
+        letter_same u k h q letter.Visit not = refl
+        letter_same u k h q letter.Back not = refl
+        letter_same u k h q letter.Release not = refl
+        letter_same u k h q (letter.Transfer e) not = refl
+
+        mail_same : (u k : ℕ) (o : Option Envelope) → is_enter l.host p o ≡ false → mail_labels m'.stores 0 u k o ≡ mail_labels m.stores 0 u k o
+        mail_same u k None not = refl
+        mail_same u k (Some e) not = ap (label_at 0 e.to.0) (letter_same u k e.to.0 e.path e.letter not)
+
+  module _ (moved : Bool) (ways : SameWays m m' l moved) where
+    asked_same : (u : ℕ) → (next_at p (slice_get m.stores l.host) ≡ Some u → ⊥) → (next_at p (slice_get m'.stores l.host) ≡ Some u → ⊥) → (i : ℕ) (c c' : Cell Actor) → slice_get m.cells i ≡ Some c → m.first + i ≢ ticket_of l.act → moved ≡ false → AsksAs c c' → asked_of m'.stores u c' ≡ asked_of m.stores u c
+    asked_same u before after i c c' there other none a =
         (λ j. status_labels m'.stores 0 u (a.status j) ++ flat_map (λ k. mail_labels m'.stores 0 u k (mail_in (a.mails j) k)) (tickets_from 1 (a.sent j)))
-        ∙ (λ j. ways.status i u c there before after j ++ flat_same (λ k. mail_labels m'.stores 0 u k (mail_in c.outbox.mails k)) (λ k. mail_labels m.stores 0 u k (mail_in c.outbox.mails k)) (λ k. ways.mails i u k c there) (tickets_from 1 c.outbox.sent) j)
+        ∙ (λ j. ways.status i u c there other before after j ++ flat_same (λ k. mail_labels m'.stores 0 u k (mail_in c.outbox.mails k)) (λ k. mail_labels m.stores 0 u k (mail_in c.outbox.mails k)) (λ k. ways.mails i u k c there (ap (λ b. b && is_enter l.host p (mail_in c.outbox.mails k)) none)) (tickets_from 1 c.outbox.sent) j)
+
+    other_place : (u : ℕ) (c : Cell Actor) → cell_at m u ≡ Some c → u ≢ ticket_of l.act → m.first + (u - m.first) ≢ ticket_of l.act
+    other_place u c e apart same = let low = (cell_there m u c e).low in let here : u ≡ m.first + (u - m.first) = omega (arith, low) in apart (here ∙ same)
 
     -- another ticket asks for the same
-    pub others_ask : (u : ℕ) → (next_at p (slice_get m.stores l.host) ≡ Some u → ⊥) → (next_at p (slice_get m'.stores l.host) ≡ Some u → ⊥) → (new_cells l.act ≡ 1 → ticket_of l.act ≡ m.first + length m.cells) → m'.first ≤ u → u < m'.first + length m'.cells → u ≢ ticket_of l.act → asked_at m u ≡ asked_at m' u
-    others_ask u before after grows low high apart =
+    pub others_ask : (u : ℕ) → (next_at p (slice_get m.stores l.host) ≡ Some u → ⊥) → (next_at p (slice_get m'.stores l.host) ≡ Some u → ⊥) → moved ≡ false → (new_cells l.act ≡ 1 → ticket_of l.act ≡ m.first + length m.cells) → m'.first ≤ u → u < m'.first + length m'.cells → u ≢ ticket_of l.act → asked_at m u ≡ asked_at m' u
+    others_ask u before after none grows low high apart =
         let it = two_cells grows u low high apart in
-        ap (asked_by m.stores u) it.old_is ∙ sym (asked_same u before after (u - m.first) it.old it.new (cell_there m u it.old it.old_is).at it.asks) ∙ sym (ap (asked_by m'.stores u) it.new_is)
+        ap (asked_by m.stores u) it.old_is ∙ sym (asked_same u before after (u - m.first) it.old it.new (cell_there m u it.old it.old_is).at (other_place u it.old it.old_is apart) none it.asks) ∙ sym (ap (asked_by m'.stores u) it.new_is)
 
     -- and so does each of its numbers; 0 is the status of who neither was nor is next
     pub others_slot : (new_cells l.act ≡ 1 → ticket_of l.act ≡ m.first + length m.cells) → (u j : ℕ) → m'.first ≤ u → u < m'.first + length m'.cells → u ≢ ticket_of l.act
-        → (j ≡ 0 → next_at p (slice_get m.stores l.host) ≡ Some u → ⊥) → (j ≡ 0 → next_at p (slice_get m'.stores l.host) ≡ Some u → ⊥) → slot_at m u j ≡ slot_at m' u j
-    others_slot grows u j low high apart before after =
+        → (j ≡ 0 → next_at p (slice_get m.stores l.host) ≡ Some u → ⊥) → (j ≡ 0 → next_at p (slice_get m'.stores l.host) ≡ Some u → ⊥) → (moved && is_enter l.host p (mail_at m' u j)) ≡ false → slot_at m u j ≡ slot_at m' u j
+    others_slot grows u j low high apart before after not =
         let it = two_cells grows u low high apart in
-        ap (slot_by m.stores u j) it.old_is ∙ sym (by_number j before after it.old it.new (cell_there m u it.old it.old_is).at it.asks) ∙ sym (ap (slot_by m'.stores u j) it.new_is)
+        ap (slot_by m.stores u j) it.old_is ∙ sym (by_number j before after it.old it.new (cell_there m u it.old it.old_is).at (other_place u it.old it.old_is apart) it.asks (ap (λ o. moved && is_enter l.host p o) (λ i. mail_in (sym it.asks.mails i) j) ∙ ap (λ o. moved && is_enter l.host p (mail_by j o)) (sym it.new_is) ∙ not)) ∙ sym (ap (slot_by m'.stores u j) it.new_is)
       where
-        by_number : (j : ℕ) → (j ≡ 0 → next_at p (slice_get m.stores l.host) ≡ Some u → ⊥) → (j ≡ 0 → next_at p (slice_get m'.stores l.host) ≡ Some u → ⊥) → (c c' : Cell Actor) → slice_get m.cells (u - m.first) ≡ Some c → AsksAs c c' → asked_as m'.stores u c' j ≡ asked_as m.stores u c j
-        by_number zero before after c c' there a = ap (status_labels m'.stores 0 u) a.status ∙ ways.status (u - m.first) u c there (before refl) (after refl)
-        by_number (suc k) before after c c' there a = ap (λ ms. mail_labels m'.stores 0 u (suc k) (mail_in ms (suc k))) a.mails ∙ ways.mails (u - m.first) u (suc k) c there
+        by_number : (j : ℕ) → (j ≡ 0 → next_at p (slice_get m.stores l.host) ≡ Some u → ⊥) → (j ≡ 0 → next_at p (slice_get m'.stores l.host) ≡ Some u → ⊥) → (c c' : Cell Actor) → slice_get m.cells (u - m.first) ≡ Some c → m.first + (u - m.first) ≢ ticket_of l.act → AsksAs c c' → (moved && is_enter l.host p (mail_in c.outbox.mails j)) ≡ false → asked_as m'.stores u c' j ≡ asked_as m.stores u c j
+        by_number zero before after c c' there other a not = ap (status_labels m'.stores 0 u) a.status ∙ ways.status (u - m.first) u c there other (before refl) (after refl)
+        by_number (suc k) before after c c' there other a not = ap (λ ms. mail_labels m'.stores 0 u (suc k) (mail_in ms (suc k))) a.mails ∙ ways.mails (u - m.first) u (suc k) c there not
 
     -- of the label's ticket each mail that was sent before, but the label's own, asks for the same
-    pub own_slot : KeepsMails m m' l → (j : ℕ) → m'.first ≤ ticket_of l.act → ticket_of l.act < m'.first + length m'.cells → j ≢ 0 → j ≢ act_number l.act → j ≤ sent_at m (ticket_of l.act) → slot_at m (ticket_of l.act) j ≡ slot_at m' (ticket_of l.act) j
-    own_slot keeps j low high some apart within = by_cell (cell_at m t) refl
+    pub own_slot : KeepsMails m m' l → (j : ℕ) → m'.first ≤ ticket_of l.act → ticket_of l.act < m'.first + length m'.cells → j ≢ 0 → j ≢ act_number l.act → j ≤ sent_at m (ticket_of l.act) → (moved && is_enter l.host p (mail_at m' (ticket_of l.act) j)) ≡ false → slot_at m (ticket_of l.act) j ≡ slot_at m' (ticket_of l.act) j
+    own_slot keeps j low high some apart within not = by_cell (cell_at m t) refl
       where
         by_cell : (o : Option (Cell Actor)) → cell_at m t ≡ o → slot_at m t j ≡ slot_at m' t j
         by_cell None e = absurd (let none : sent_at m (ticket_of l.act) ≡ 0 = ap sent_by e in omega (arith, none, within, some))
@@ -399,9 +440,11 @@ module _ (m m' : Kept) (l : Label) (more : ℕ) (moves : Moves m m' l more) wher
             let sent : sent_at m (ticket_of l.act) ≡ c.outbox.sent = ap sent_by e in
             let small : j ≤ c.outbox.sent = omega (arith, within, sent) in
             let kept = keeps.kept (t - m.first) c new.0 here' there.at (ap (slice_get m'.cells) (sym place) ∙ new.1) j small apart m'.stores in
+            let at' : cell_at m' t ≡ Some new.0 = cell_is m' t low ∙ new.1 in
+            let enter = keeps.enter (t - m.first) c new.0 here' there.at (ap (slice_get m'.cells) (sym place) ∙ new.1) j small apart l.host p in
             ap (slot_by m.stores t j) e
             ∙ asked_mail m.stores t c j some
-            ∙ sym (ways.mails (t - m.first) t j c there.at)
+            ∙ sym (ways.mails (t - m.first) t j c there.at (ap (λ b. moved && b) (sym enter) ∙ ap (λ o. moved && is_enter l.host p (mail_by j o)) (sym at') ∙ not))
             ∙ sym kept
             ∙ sym (asked_mail m'.stores t new.0 j some)
             ∙ sym (ap (slot_by m'.stores t j) (cell_is m' t low ∙ new.1))

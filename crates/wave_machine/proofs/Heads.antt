@@ -1,5 +1,5 @@
 -- What the head asks for is the first kind, and the last.
-use Rattle.std.proofs.Common.{◌≡◌, ◌∙◌, ◌+◌, ◌&&◌, ◌||◌, ◌==◌, ℕ, Bool, true, false, List, [], ◌++◌, length, map, Option, Some, None, refl, sym, ap, arith, true≢false}
+use Rattle.std.proofs.Common.{◌≡◌, ◌∙◌, ◌+◌, ◌&&◌, ◌==◌, ℕ, Bool, true, false, List, [], ◌++◌, length, map, Option, Some, None, refl, sym, ap, arith, true≢false}
 use Rattle.std.specs.Prelude.{option_map, slice_get}
 use Rattle.std.specs.List.{AllByRecursion}
 use Rattle.wave_base.specs.declared.numbers.Ticket.{Ticket}
@@ -14,7 +14,7 @@ use Rattle.wave_machine.specs.declared.ready.Ready.{Ready}
 use Rattle.wave_effects.specs.Apart.{Moves, on_head}
 use Rattle.wave_effects.specs.Machines.{Kept}
 use Rattle.wave_machine.specs.inner.Asking.{admit_labels, commit_labels, in_order, label_at, of_kind}
-use Rattle.wave_machine.specs.inner.Index.{Goes, High, IsHead, IsInner, Low, by_none, head_in, head_left, head_of, is_admit, act_number}
+use Rattle.wave_machine.specs.inner.Index.{Goes, High, IsHead, IsInner, Low, by_none, head_in, head_of, is_admit, act_number}
 use Rattle.wave_machine.proofs.Ordering.{all_filter, all_flat, all_map}
 use Rattle.wave_machine.proofs.Parting.{at_place, first_none, is_slot}
 use Rattle.wave_machine.proofs.Relisted.{IsFirst, IsLast}
@@ -66,14 +66,9 @@ head_is m = record {
 pub no_head : IsHead []
 no_head = record { admit = None; commit = None; are = refl }
 
-pub left_is : (whole : Bool) (m : Kept) → IsHead (head_left whole (head_in m))
-left_is true m = no_head
-left_is false m = head_is m
-
--- where all was not listed anew and the label is none that changes it, what is left is what the head asks for
-pub still : (whole changed : Bool) (m m' : Kept) (l : Label) → changed ≡ (whole || on_head l.act) → {more : ℕ} → Moves m m' l more → changed ≡ false → head_left whole (head_in m) ≡ head_in m'
-still true changed m m' l is moves off = absurd (true≢false (sym is ∙ off))
-still false changed m m' l is moves off =
+-- where the label is none that changes it, the head asks for the same
+pub still : (changed : Bool) (m m' : Kept) (l : Label) → changed ≡ on_head l.act → {more : ℕ} → Moves m m' l more → changed ≡ false → head_in m ≡ head_in m'
+still changed m m' l is moves off =
     let same = moves.head (sym is ∙ off) in
     let ticket : m.first + length m.settled.results ≡ m'.first + length m'.settled.results = λ i. sym moves.others.first i + sym same.settled i in
     λ i. label_at 0 0 (option_map (λ (t : Ticket). Admit t.0) (sym same.next i)) ++ label_at 0 0 (option_map (λ (r : EventResult). Commit (ticket i)) (sym same.ready i))

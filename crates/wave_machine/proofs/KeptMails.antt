@@ -1,9 +1,10 @@
 -- What a label leaves of its ticket's mails, as a listing reads them.
-use Rattle.std.proofs.Common.{◌≡◌, ◌∙◌, ◌⊎◌, inl, inr, ℕ, suc, ◌+◌, ◌-◌, ◌<◌, ◌≤◌, List, Option, Some, None, refl, sym, ap, subst, arith}
+use Rattle.std.proofs.Common.{◌≡◌, ◌∙◌, ◌⊎◌, inl, inr, ℕ, suc, ◌+◌, ◌-◌, ◌<◌, ◌≤◌, ◌==◌, ◌&&◌, Bool, true, false, List, Option, Some, None, refl, sym, ap, subst, arith}
 use Rattle.std.specs.Prelude.{slice_get}
 use Rattle.std.proofs.lemmas.Bool.{cases_lt}
 use Rattle.std.proofs.lemmas.Option.{slice_get_within}
 use Rattle.wave_base.specs.declared.path.Path.{Path}
+use Rattle.wave_base.specs.Paths.{path_eq}
 use Rattle.wave_base.specs.declared.pause.Pause.{Pause}
 use Rattle.wave_base.specs.declared.start.Start.{Start}
 use Rattle.host_map.specs.Stores.{Stores}
@@ -30,7 +31,7 @@ use Rattle.wave_effects.specs.Running.{CanStop, IsStopping, Stops, stop_of}
 use Rattle.wave_effects.specs.Apart.{new_cells}
 use Rattle.wave_effects.specs.Sized.{IsNumbered}
 use Rattle.wave_machine.specs.inner.Asking.{enter_act, label_at, mail_act, mail_labels, route_at}
-use Rattle.wave_machine.specs.inner.Index.{KeepsMails, act_number, sent_at, sent_by}
+use Rattle.wave_machine.specs.inner.Index.{KeepsMails, act_number, is_enter, is_enter_in, sent_at, sent_by}
 use Rattle.wave_effects.proofs.Ending.{none_carries}
 use Rattle.wave_machine.proofs.Grows.{admit_grows}
 use Rattle.wave_machine.proofs.OwnMails.{KeepsOwn, own_by}
@@ -72,6 +73,38 @@ same_asked stores t k (Some e) (Some e') (Some x) c c' =
     let path : e'.path ≡ e.path = sym c'.path ∙ c.path in
     (λ i. label_at 0 (host i) (mail_act stores t k (host i) (path i) e'.letter))
     ∙ ap (label_at 0 e.to.0) (act_said stores t k e.to.0 e.path e'.letter x.letter c'.letter ∙ sym (act_said stores t k e.to.0 e.path e.letter x.letter c.letter))
+
+-- and are the same Enters
+abbrev enters_in : theory.Letter Fields → Bool
+enters_in (Enter a) = true
+enters_in theory.Visit = false
+enters_in theory.Back = false
+enters_in Release = false
+enters_in (Transfer e) = false
+
+enters_said : (x : Letter) (l : theory.Letter Fields) → Says x l → is_enter_in x ≡ enters_in l
+enters_said (letter.Enter number followed peek) l e = ap enters_in (sym e)
+enters_said letter.Visit l e = ap enters_in (sym e)
+enters_said letter.Back l e = ap enters_in (sym e)
+enters_said letter.Release l e = ap enters_in (sym e)
+enters_said (letter.Transfer x) (Transfer e) h = refl
+enters_said (letter.Transfer x) (Enter a) h = absurd h
+enters_said (letter.Transfer x) theory.Visit h = absurd h
+enters_said (letter.Transfer x) theory.Back h = absurd h
+enters_said (letter.Transfer x) Release h = absurd h
+
+same_enter : (h : ℕ) (p : Path) (o o' : Option Envelope) (r : Option (Mail Fields)) → Carries o r → Carries o' r → is_enter h p o' ≡ is_enter h p o
+same_enter h p None None r c c' = refl
+same_enter h p None (Some e') None c c' = absurd c'
+same_enter h p None (Some e') (Some x) c c' = absurd c
+same_enter h p (Some e) None None c c' = absurd c
+same_enter h p (Some e) None (Some x) c c' = absurd c'
+same_enter h p (Some e) (Some e') None c c' = absurd c
+same_enter h p (Some e) (Some e') (Some x) c c' =
+    let host : e'.to.0 ≡ e.to.0 = sym c'.host ∙ c.host in
+    let path : e'.path ≡ e.path = sym c'.path ∙ c.path in
+    let letters : is_enter_in e'.letter ≡ is_enter_in e.letter = enters_said e'.letter x.letter c'.letter ∙ sym (enters_said e.letter x.letter c.letter) in
+    λ i. (host i == h) && (path_eq (path i) p && letters i)
 
 -- ---- over a label that is taken
 module _ (laws : Laws) (m : Kept) (start : Start) (s : TheState) (stands : Stands m start s) where
@@ -157,6 +190,14 @@ module _ (laws : Laws) (m m' : Kept) (l : Label) (on : IsEnabled m l) (stands' :
         let sent = x.stands.sent in
         let same = k.mails (event_as x.desk.event) x.event j (omega (arith, low, sent)) apart in
         same_asked stores (ticket_of l.act) j (mail_in c.outbox.mails j) (mail_in c'.outbox.mails j) (x.desk.mails j) (x.stands.mails j)
+        (subst (Carries (mail_in c'.outbox.mails j)) (sym (y.mails j) ∙ same ∙ x.mails j) (y.stands.mails j));
+    enter = λ i c c' at there there' j low apart h p.
+        let x = was i c at there in
+        let y = is i c' at there' in
+        let k = keeps (not_grown i c at there) in
+        let sent = x.stands.sent in
+        let same = k.mails (event_as x.desk.event) x.event j (omega (arith, low, sent)) apart in
+        same_enter h p (mail_in c.outbox.mails j) (mail_in c'.outbox.mails j) (x.desk.mails j) (x.stands.mails j)
         (subst (Carries (mail_in c'.outbox.mails j)) (sym (y.mails j) ∙ same ∙ x.mails j) (y.stands.mails j));
     sent = λ i c c' at there there'.
         let x = was i c at there in

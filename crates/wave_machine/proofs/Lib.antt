@@ -29,3 +29,4 @@ pub mod Halves
 pub mod Offered
 pub mod Readied
 pub mod Births
+pub mod Entering

@@ -1,5 +1,5 @@
 -- What a label changes of the list.
-use Rattle.std.proofs.Common.{◌≡◌, ◌≢◌, ◌∙◌, inl, inr, ℕ, ◌+◌, ◌-◌, ◌<◌, ◌≤◌, ◌==◌, ◌&&◌, ◌||◌, Bool, true, false, List, [], ◌∷◌, ◌++◌, length, map, Option, Some, None, refl, sym, ap, subst, arith, append-nil}
+use Rattle.std.proofs.Common.{◌≡◌, ◌≢◌, ◌∙◌, ◌⊎◌, inl, inr, ℕ, ◌+◌, ◌-◌, ◌<◌, ◌≤◌, ◌==◌, ◌&&◌, ◌||◌, Bool, true, false, not, List, [], ◌∷◌, ◌++◌, length, map, Option, Some, None, refl, sym, ap, subst, arith, append-nil, true≢false}
 use Rattle.std.specs.Prelude.{flat_map, if◌then◌else◌, nat_lt, option_map, slice_get}
 use Rattle.std.specs.List.{AllByRecursion}
 use Rattle.std.proofs.lemmas.Bool.Decides.{nat_tests}
@@ -8,7 +8,7 @@ use Rattle.wave_base.specs.Fold.{tickets_from}
 use Rattle.event_cells.specs.declared.cell.Cell.{Cell}
 use Rattle.host_map.specs.Stores.{Stores}
 use Rattle.wave_states.specs.Labels.{Label, path_of, ticket_of}
-use Rattle.wave_theory.proofs.Basics.{and_both, and_first, and_second, clash, none_not, not_same, number_cases, number_is, number_self}
+use Rattle.wave_theory.proofs.Basics.{bool_cases, and_both, and_first, and_second, clash, none_not, not_same, number_cases, number_is, number_self}
 use Rattle.wave_effects.specs.declared.actor.Actor.{Actor}
 use Rattle.wave_machine.specs.declared.listed.Seen.{Seen}
 use Rattle.wave_machine.specs.declared.ready.Ready.{Ready}
@@ -16,12 +16,12 @@ use Rattle.wave_effects.specs.Machines.{Kept}
 use Rattle.wave_effects.specs.Apart.{Moves, new_cells}
 use Rattle.wave_effects.specs.Sized.{IsNumbered}
 use Rattle.wave_machine.specs.inner.Asking.{in_order, mail_labels}
-use Rattle.wave_machine.specs.inner.Index.{IsHead, IsInner, IsOwn, KeepsMails, RelistsNear, Taken, asked_as, asked_at, asked_by, asked_of, by_none, by_part, by_slot, cell_at, has_at, is_queue, next_at, act_number, numbers_in, sent_at, sent_by, slot_at, slot_by, with_above, with_next, with_slot}
-use Rattle.wave_machine.proofs.Renewed.{silent_slot}
-use Rattle.wave_machine.proofs.Elsewhere.{SameWays, asked_mail, grown_few, others_slot, own_slot, ways_born, ways_here}
-use Rattle.wave_machine.proofs.ListingLists.{flat_none, flat_same}
+use Rattle.wave_machine.specs.inner.Index.{AreOwn, IsEntering, IsHead, IsInner, IsOwn, KeepsMails, RelistsNear, Renews, Taken, is_enter, mail_at, asked_as, asked_at, asked_by, asked_of, by_none, by_part, by_slot, cell_at, has_at, is_queue, next_at, act_number, numbers_in, sent_at, sent_by, slot_at, slot_by, with_above, with_next, with_slot}
+use Rattle.wave_machine.proofs.Renewed.{own_above, same_slots, silent_slot}
+use Rattle.wave_machine.proofs.Elsewhere.{SameWays, asked_mail, grown_few, others_slot, own_slot, ways_alone, ways_born, ways_here}
+use Rattle.wave_machine.proofs.ListingLists.{flat_none}
 use Rattle.wave_machine.proofs.Ordering.{all_flat, all_map, flat_append, numbers_append, same_numbered}
-use Rattle.wave_machine.proofs.Owned.{by_numbers, by_slots, cell_is, cell_there, own_slots, slice_some}
+use Rattle.wave_machine.proofs.Owned.{by_numbers, by_slots, cell_is, cell_there, own_next, own_slots, own_with, slice_some}
 use Rattle.wave_machine.proofs.Relisted.{own_inner}
 
 equal : (a b : ℕ) → a ≡ b → (a == b) ≡ true
@@ -156,16 +156,16 @@ module _ (m m' : Kept) (l : Label) (more : ℕ) (moves : Moves m m' l more) (gro
         by_cell (Some c) e past = past_sent t c e j (subst (λ o. sent_by o < j) e past)
 
     -- where all goes the same ways each slot has what it asks for
-    slots_are : SameWays m m' l
+    slots_are : (moved : Bool) → SameWays m m' l moved
         → (u j : ℕ) → m'.first ≤ u → u < m'.first + length m'.cells → (u ≡ ticket_of l.act → sent_at m (ticket_of l.act) < j → ⊥) → (u ≡ ticket_of l.act → j ≡ act_number l.act → ⊥) → (u ≡ ticket_of l.act → j ≡ 0 → ⊥)
-        → (j ≡ 0 → next_at (path_of l.act) (slice_get m.stores l.host) ≡ Some u → ⊥) → (j ≡ 0 → next_at (path_of l.act) (slice_get m'.stores l.host) ≡ Some u → ⊥) → slot_at m u j ≡ slot_at m' u j
-    slots_are ways u j low high above own status before after = elim (number_cases u (ticket_of l.act)) [
+        → (j ≡ 0 → next_at (path_of l.act) (slice_get m.stores l.host) ≡ Some u → ⊥) → (j ≡ 0 → next_at (path_of l.act) (slice_get m'.stores l.host) ≡ Some u → ⊥) → (moved && is_enter l.host (path_of l.act) (mail_at m' u j)) ≡ false → slot_at m u j ≡ slot_at m' u j
+    slots_are moved ways u j low high above own status before after not = elim (number_cases u (ticket_of l.act)) [
       | inl e ↦
           let t = ticket_of l.act in
           ap (λ n. slot_at m n j) e
-          ∙ own_slot m m' l more moves ways keeps j (subst (λ n. m'.first ≤ n) e low) (subst (λ n. n < m'.first + length m'.cells) e high) (status e) (own e) (not_less (sent_at m t) j (above e))
+          ∙ own_slot m m' l more moves moved ways keeps j (subst (λ n. m'.first ≤ n) e low) (subst (λ n. n < m'.first + length m'.cells) e high) (status e) (own e) (not_less (sent_at m t) j (above e)) (ap (λ n. moved && is_enter l.host (path_of l.act) (mail_at m' n j)) (sym e) ∙ not)
           ∙ ap (λ n. slot_at m' n j) (sym e)
-      | inr d ↦ others_slot m m' l more moves ways grows u j low high (not_same u (ticket_of l.act) d) before after
+      | inr d ↦ others_slot m m' l more moves moved ways grows u j low high (not_same u (ticket_of l.act) d) before after not
     ]
       where
         not_less : (a b : ℕ) → (a < b → ⊥) → b ≤ a
@@ -193,29 +193,51 @@ module _ (m m' : Kept) (l : Label) (more : ℕ) (moves : Moves m m' l more) (gro
     abbrev all_new : ℕ → ℕ → List Label
     all_new = with_next m' after before_new
 
-    all_new_is : SameWays m m' l → (u : ℕ) → m'.first ≤ u → u < m'.first + length m'.cells → (j : ℕ) → all_new u j ≡ slot_at m' u j
-    all_new_is ways u low high j =
+    all_new_is : (moved : Bool) → SameWays m m' l moved → (u : ℕ) → m'.first ≤ u → u < m'.first + length m'.cells → (j : ℕ) → (moved && is_enter l.host (path_of l.act) (mail_at m' u j)) ≡ false → all_new u j ≡ slot_at m' u j
+    all_new_is moved ways u low high j not =
         next_or m' before_new u j after (λ not_after. next_or m' mails_new u j before (λ not_before. above_or m' own_new u j (ticket_of l.act) (sent_at m (ticket_of l.act)) (λ not_above.
         slot_or m' status_new u j (ticket_of l.act) (act_number l.act) (λ not_own. slot_or m' (slot_at m) u j (ticket_of l.act) 0 (λ not_status.
-        slots_are ways u j low high not_above not_own not_status not_before not_after)))))
+        slots_are moved ways u j low high not_above not_own not_status not_before not_after not)))))
 
-    near_by : (asked : Bool) → (asked ≡ false → slot_at m (ticket_of l.act) 0 ≡ []) → (h : List Label) → IsHead h → (old new : List Ready) → SameWays m m' l
-        → RelistsNear m' (ticket_of l.act) (act_number l.act) (sent_at m (ticket_of l.act)) asked before after old new → map by_none old ≡ in_order (h ++ by_part m (asked_at m)) → map by_none new ≡ in_order (h ++ by_part m' (asked_at m'))
-    near_by asked none h head old new ways r e =
-        let numbers : ℕ → List ℕ = λ u. tickets_from 0 (numbers_in (cell_at m' u)) in
-        r.parts h head (slot_at m) (own_slots m) none (none_above (ticket_of l.act)) keeps.number (e ∙ ap (λ ls. in_order (h ++ ls)) (sym wider_slots))
-        ∙ ap (λ ls. in_order (h ++ ls)) (same_numbered (λ u. flat_map (all_new u) (numbers u)) (λ u. flat_map (slot_at m' u) (numbers u)) m'.first (length m'.cells) (λ u low high. flat_same (all_new u) (slot_at m' u) (all_new_is ways u low high) (numbers u)) ∙ by_slots m')
+    own_all : AreOwn all_new
+    own_all =
+        let t = ticket_of l.act in
+        own_next m' after before_new (own_next m' before mails_new (own_above m' own_new t (sent_at m t) (own_with m' status_new t (act_number l.act) (own_with m' (slot_at m) t 0 (own_slots m)))))
+
+    near_by : (asked : Bool) → (asked ≡ false → slot_at m (ticket_of l.act) 0 ≡ []) → (h : List Label) → IsHead h → (moved : Bool) → SameWays m m' l moved → (old mid new : List Ready)
+        → RelistsNear m' (ticket_of l.act) (act_number l.act) (sent_at m (ticket_of l.act)) asked before after old mid → Renews m' (IsEntering m' l moved) mid new
+        → map by_none old ≡ in_order (h ++ by_part m (asked_at m)) → map by_none new ≡ in_order (h ++ by_part m' (asked_at m'))
+    near_by asked none h head moved ways old mid new r rest e =
+        let x = rest.parts h head all_new own_all (r.parts h head (slot_at m) (own_slots m) none (none_above (ticket_of l.act)) keeps.number (e ∙ ap (λ ls. in_order (h ++ ls)) (sym wider_slots))) in
+        x.2 ∙ ap (λ ls. in_order (h ++ ls)) (same_slots m' x.0 (slot_at m') (λ u j low high within. each x.0 u j low high (x.1.each u j)) ∙ by_slots m')
+      where
+        each : (later : ℕ → ℕ → List Label) (u j : ℕ) → m'.first ≤ u → u < m'.first + length m'.cells → (later u j ≡ slot_at m' u j) ⊎ ((later u j ≡ all_new u j) × (IsEntering m' l moved u j → ⊥)) → later u j ≡ slot_at m' u j
+        each later u j low high (inl is) = is
+        each later u j low high (inr old) = old.0 ∙ all_new_is moved ways u low high j (elim (bool_cases (moved && is_enter l.host (path_of l.act) (mail_at m' u j))) [ inl must ↦ absurd (old.1 must) | inr need_not ↦ need_not ])
 
 -- where the context stays, or stays away, and at a Queue, all goes the same ways
-pub same_ways : (m m' : Kept) (l : Label) (seen : Seen) (more : ℕ) → Taken m m' l seen more → (same : Bool) → (same ≡ true → has_at (path_of l.act) (slice_get m'.stores l.host) ≡ seen.here) → (same || is_queue l.act) ≡ true → SameWays m m' l
+pub same_ways : (m m' : Kept) (l : Label) (seen : Seen) (more : ℕ) → Taken m m' l seen more → (same : Bool) → (same ≡ true → has_at (path_of l.act) (slice_get m'.stores l.host) ≡ seen.here) → (same || is_queue l.act) ≡ true → SameWays m m' l false
 same_ways m m' l seen more taken true stays near = ways_here m m' l more taken.moves (stays refl ∙ taken.sees.here)
 same_ways m m' l seen more taken false stays queue = elim (taken.born queue) [ inl here ↦ ways_here m m' l more taken.moves here | inr nowhere ↦ ways_born m m' l more taken.moves nowhere ]
 
-pub near_is : (m m' : Kept) (l : Label) (seen : Seen) (more : ℕ) → Taken m m' l seen more → (h : List Label) → IsHead h → (old new : List Ready) → SameWays m m' l
-    → RelistsNear m' (ticket_of l.act) (act_number l.act) seen.sent seen.asked (option_map (λ (t : Ticket). t.0) seen.next) (next_at (path_of l.act) (slice_get m'.stores l.host)) old new
+-- and all but the Enters to it where it comes or goes
+pub other_ways : (m m' : Kept) (l : Label) (seen : Seen) (more : ℕ) → Taken m m' l seen more → (same : Bool) → (has_at (path_of l.act) (slice_get m'.stores l.host) ≡ seen.here → same ≡ true) → (same || is_queue l.act) ≡ false → SameWays m m' l true
+other_ways m m' l seen more taken true stays near = absurd (true≢false near)
+other_ways m m' l seen more taken false stays near = ways_alone m m' l more taken.moves (taken.alone (λ here. true≢false (sym (stays (here ∙ sym taken.sees.here)))))
+
+pub ways_by : (m m' : Kept) (l : Label) (seen : Seen) (more : ℕ) → Taken m m' l seen more → (moved same : Bool) → (same ≡ true → has_at (path_of l.act) (slice_get m'.stores l.host) ≡ seen.here)
+    → (has_at (path_of l.act) (slice_get m'.stores l.host) ≡ seen.here → same ≡ true) → moved ≡ not (same || is_queue l.act) → SameWays m m' l moved
+ways_by m m' l seen more taken moved same stays back is = by_near (same || is_queue l.act) refl is
+  where
+    by_near : (b : Bool) → (same || is_queue l.act) ≡ b → moved ≡ not b → SameWays m m' l moved
+    by_near true near is = subst (SameWays m m' l) (sym is) (same_ways m m' l seen more taken same stays near)
+    by_near false near is = subst (SameWays m m' l) (sym is) (other_ways m m' l seen more taken same back near)
+
+pub near_is : (m m' : Kept) (l : Label) (seen : Seen) (more : ℕ) → Taken m m' l seen more → (h : List Label) → IsHead h → (moved : Bool) → SameWays m m' l moved → (old mid new : List Ready)
+    → RelistsNear m' (ticket_of l.act) (act_number l.act) seen.sent seen.asked (option_map (λ (t : Ticket). t.0) seen.next) (next_at (path_of l.act) (slice_get m'.stores l.host)) old mid → Renews m' (IsEntering m' l moved) mid new
     → map by_none old ≡ in_order (h ++ by_part m (asked_at m)) → map by_none new ≡ in_order (h ++ by_part m' (asked_at m'))
-near_is m m' l seen more taken h head old new ways r =
+near_is m m' l seen more taken h head moved ways old mid new r =
     let after = next_at (path_of l.act) (slice_get m'.stores l.host) in
-    near_by m m' l more taken.moves taken.grows taken.mails taken.numbered seen.asked (λ e. silent_slot m (ticket_of l.act) (sym taken.sees.asked ∙ e)) h head old new ways
-    (subst (λ o. RelistsNear m' (ticket_of l.act) (act_number l.act) (sent_at m (ticket_of l.act)) seen.asked o after old new) taken.sees.next
-    (subst (λ n. RelistsNear m' (ticket_of l.act) (act_number l.act) n seen.asked (option_map (λ (t : Ticket). t.0) seen.next) after old new) taken.sees.sent r))
+    near_by m m' l more taken.moves taken.grows taken.mails taken.numbered seen.asked (λ e. silent_slot m (ticket_of l.act) (sym taken.sees.asked ∙ e)) h head moved ways old mid new
+    (subst (λ o. RelistsNear m' (ticket_of l.act) (act_number l.act) (sent_at m (ticket_of l.act)) seen.asked o after old mid) taken.sees.next
+    (subst (λ n. RelistsNear m' (ticket_of l.act) (act_number l.act) n seen.asked (option_map (λ (t : Ticket). t.0) seen.next) after old mid) taken.sees.sent r))

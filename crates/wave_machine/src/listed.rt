@@ -1,8 +1,8 @@
 //! An engine with the list of what can be done, which is kept from label to label.
 
-ghost use Rattle.std.specs.Prelude.{◌≡◌, ◌↔◌, ◌≤◌, ◌+◌, ◌||◌, ℕ, Some, true, length, slice_get, IsTrue, IfOk, IfErr, OnOk, OnErr};
+ghost use Rattle.std.specs.Prelude.{◌≡◌, ◌↔◌, ◌≤◌, ◌+◌, ℕ, Some, true, length, slice_get, IsTrue, IfOk, IfErr, OnOk, OnErr};
 ghost use Rattle.wave_base.specs.declared.start.Start as start;
-ghost use Rattle.wave_labels.specs.Labels.{act_of, label_of};
+ghost use Rattle.wave_labels.specs.Labels.{label_of};
 ghost use Rattle.script_fold.specs.Runs.{finished_of};
 ghost use Rattle.wave_states.specs.Begins.{start_state};
 ghost use Rattle.wave_states.specs.Runs as runs;
@@ -10,7 +10,6 @@ ghost use Rattle.plan_actors.specs.Calls.{code_ran};
 ghost use Rattle.plan_actors.specs.PlanActors.{plan_actors};
 ghost use Rattle.plan_actors.specs.Plans.{Fits, FitsStart, begin_in};
 ghost use Rattle.wave_effects.specs.Actors.{MayRun};
-ghost use Rattle.wave_effects.specs.Apart.{on_head};
 ghost use Rattle.wave_effects.specs.Keeping.{kept_of};
 ghost use Rattle.wave_effects.specs.Machines.{IsEnabled, Keeps, Kept, Stands, Takes, TheState};
 ghost use Rattle.wave_effects.specs.Plans.{plan_of};
@@ -31,11 +30,11 @@ use wave_base::{Finished, Host, OutOfMemory, Path, Pause, Start, Ticket};
 use wave_effects::{
     Engine, Lease, Plan, Prepared, Refused, heads_are_known, segments_are_known, states_are_known,
 };
-use wave_labels::{Act, Label};
+use wave_labels::Label;
 
 /// An engine, and in canonical order what can be done by an idle worker. A label changes what the status of its ticket asks for, its own
-/// mail and those that it sends, and what whoever is next in the line of its context asks for; where the context lands or leaves, all
-/// tickets are listed anew. One that is born was nowhere, so that each Enter to it asks for the same as before.
+/// mail and those that it sends, and what whoever is next in the line of its context asks for; where the context lands or leaves, also
+/// what the Enters to it ask for. One that is born was nowhere, so that each Enter to it asks for the same as before.
 #[derive(Drop)]
 pub(crate) struct Listed<'p> {
     pub(crate) engine: Engine<'p>,
@@ -132,13 +131,14 @@ impl<'p> Listed<'p> {
         self.engine.prepare(alloc, label)
     }
 
-    // Makes room for what a label lists anew: all tickets, or a few entries and those of the mails that came; and the head's entries.
+    // Makes room for what a label lists anew: a few entries, those of the mails that came and of the Enters to its context, and the head's.
     fn reserve(&mut self, more: usize) -> Result<(), OutOfMemory>
         ensures room { OnOk result (HasRoom self.new more) }
         ensures same { SameList self.old self.new }
     {
         // a sum that does not fit is more than any memory holds, so that its request is refused
-        let room = self.weight.saturating_add(more).saturating_add(8);
+        let most = self.weight.saturating_add(more);
+        let room = most.saturating_add(most).saturating_add(10);
         self.index.reserve(room)?;
         Ok(())
     }
@@ -177,6 +177,7 @@ impl<'p> Listed<'p> {
         ensures listed { IsListed self.new }
     {
         states_are_known();
+        states_list();
         done_stays();
         let seen = self.look(label.host, ticket_of(&label.act), &path_of(&label.act));
         let lease = self.engine.act_start(label, part);
@@ -202,6 +203,7 @@ impl<'p> Listed<'p> {
         states_are_known();
         heads_are_known();
         segments_are_known();
+        states_list();
         done_stays();
         let (ticket, path) = (lease.ticket, lease.path);
         let more = may_leave(&self.engine, ticket);
@@ -246,19 +248,8 @@ impl<'p> Listed<'p> {
         heads_are_known();
         let share = share_at(&self.engine, ticket_of(&label.act));
         self.weight = self.weight - seen.share + share;
-        let whole = relist_after(&self.engine, label, seen, self.done, &mut self.index);
-        renew_head(
-            &self.engine,
-            changes_head(whole, &label.act),
-            &mut self.index,
-        );
+        relist_after(&self.engine, label, seen, self.done, &mut self.index);
+        renew_head(&self.engine, is_on_head(&label.act), &mut self.index);
         self.done = count_done(&self.engine, self.done);
     }
-}
-
-// Whether what the head asks for is to be listed anew: all was, without it, or a label may have changed it.
-fn changes_head(whole: bool, act: &Act) -> bool
-    ensures { result ≡ (whole || on_head (act_of act.now)) }
-{
-    whole || is_on_head(act)
 }

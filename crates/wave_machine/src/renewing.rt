@@ -1,6 +1,6 @@
 //! What the index has of a ticket, of all tickets and of the head, listed anew.
 
-ghost use Rattle.std.specs.Prelude.{◌≡◌, false, ◌↔◌, ◌≤◌, ◌<◌, ◌+◌, ◌++◌, ◌^◌, ◌||◌, ℕ, IsTrue, List, Option, Some, true, drop, flat_map, length, map, is_some, option_map, slice_get, take, vec_len, vec_capacity};
+ghost use Rattle.std.specs.Prelude.{not, ◌≡◌, false, ◌↔◌, ◌≤◌, ◌<◌, ◌+◌, ◌++◌, ◌^◌, ◌||◌, ℕ, IsTrue, List, Option, Some, true, drop, flat_map, length, map, is_some, option_map, slice_get, take, vec_len, vec_capacity};
 ghost use Rattle.std.specs.List.{AllByRecursion};
 ghost use Rattle.std.specs.List.Sorted.{IsStrictlySortedBy};
 ghost use Rattle.std.specs.Map.{keys_of};
@@ -12,10 +12,10 @@ ghost use Rattle.wave_states.specs.Labels as theory;
 ghost use Rattle.wave_states.specs.Labels.{path_of, ticket_of};
 ghost use Rattle.wave_effects.specs.Machines.{Kept};
 ghost use Rattle.wave_machine.specs.inner.Asking.{admit_labels, in_order, label_at, labels_in, mail_labels};
-ghost use Rattle.wave_effects.specs.Sized.{IsListable, IsNumbered};
+ghost use Rattle.wave_effects.specs.Sized.{IsListable};
 ghost use Rattle.wave_machine.specs.inner.Done.{AreDone};
 ghost use Rattle.wave_machine.specs.inner.Others.{but};
-ghost use Rattle.wave_machine.specs.inner.Index.{IsHead, IsInner, Lists, ListsNew, Relists, RelistsBoth, RelistsNear, RelistsNext, RelistsOwn, RelistsStatus, Taken, asked_as, asked_at, asked_of, asks_at, by_none, by_part, head_in, head_left, is_admit, is_queue, next_at, act_number, share_of, weight_of};
+ghost use Rattle.wave_machine.specs.inner.Index.{IsAmong, IsEntering, IsHead, IsInner, Lists, ListsNew, Relists, RelistsBoth, RelistsNear, RelistsNext, RelistsOwn, RelistsStatus, Renews, Taken, asked_as, asked_at, asks_at, by_none, by_part, head_in, is_admit, is_enter, is_enter_in, is_queue, mail_at, next_at, act_number, weight_of};
 ghost use Rattle.wave_effects.specs.Keeping.{kept_of};
 
 use crate::asking::{admit_label, commit_label, mail_label, status_label};
@@ -24,28 +24,13 @@ use crate::index::{
 };
 use crate::listed::Seen;
 use crate::looks::{asks_at, cell_at, line_at, path_of};
-use crate::order::{ADMIT, GRANT, kind_rank};
+use crate::order::{ADMIT, GRANT, QUEUE, kind_rank};
 use crate::ready::Ready;
 use event_cells::{Cell, Envelope};
-use wave_base::{Ticket, Worker};
+use migration_core::Letter;
+use wave_base::{Host, Path, Ticket, Worker};
 use wave_effects::{Actor, Engine};
 use wave_labels::{Act, Label, MailId};
-
-// Lists anew what all tickets ask for. The first tickets, so many, are done.
-pub(crate) fn relist_all(engine: &Engine, done: usize, index: &mut Vec<Ready>)
-    requires listable { IsListable (kept_of engine.now) }
-    requires done { AreDone (kept_of engine.now) done }
-    requires room { weight_of engine.now.cells.items ≤ vec_capacity index.old }
-    ensures all { map by_none index.new.items ≡ in_order (by_part (kept_of engine.now) (asked_at (kept_of engine.now))) }
-    ensures len { vec_len index.new ≤ weight_of engine.now.cells.items }
-    ensures capacity { vec_capacity index.new ≡ vec_capacity index.old }
-{
-    index.clear();
-    for i in done..engine.cells.len() {
-        let ticket = Ticket(engine.first + i as u32);
-        list(engine, ticket, &engine.cells[i], index);
-    }
-}
 
 // Lists anew what a label changes by which its context stays, or stays away, or is born: what the ticket's status asks for and the
 // label's mail, the mails that it sent, and who was next in the line of the context, and who is, where they are others.
@@ -200,51 +185,107 @@ fn list_new(engine: &Engine, ticket: Ticket, sent: u32, index: &mut Vec<Ready>)
     }
 }
 
-// Lists anew what a label that was taken has changed: where its context landed or left, what all tickets ask for. The first tickets,
-// so many, are done. At a birth no Enter goes another way. Answers whether all was listed anew, so that nothing of the head's is left in
-// the list.
+// Lists anew what a label that was taken has changed, and where its context landed or left, the Enters to it. The first tickets, so many,
+// are done.
 pub(crate) fn relist_after(
     engine: &Engine,
     label: &Label,
     seen: Seen,
     done: usize,
     index: &mut Vec<Ready>,
-) -> bool
+)
     requires listable { IsListable (kept_of engine.now) }
     requires done { AreDone (kept_of engine.now) done }
-    requires room { vec_len index.old + (4 + weight_of engine.now.cells.items) ≤ vec_capacity index.old }
+    requires room { vec_len index.old + (4 + (weight_of engine.now.cells.items + weight_of engine.now.cells.items)) ≤ vec_capacity index.old }
     ensures all { (m : Kept) (more : ℕ) (h : List theory.Label) → Taken m (kept_of engine.now) (label_of label.now) seen more → IsHead h → map by_none index.old.items ≡ in_order (h ++ by_part m (asked_at m))
-        → map by_none index.new.items ≡ in_order (head_left result h ++ by_part (kept_of engine.now) (asked_at (kept_of engine.now))) }
-    ensures len { vec_len index.new ≤ vec_len index.old + (4 + weight_of engine.now.cells.items) }
+        → map by_none index.new.items ≡ in_order (h ++ by_part (kept_of engine.now) (asked_at (kept_of engine.now))) }
+    ensures len { vec_len index.new ≤ vec_len index.old + (4 + (weight_of engine.now.cells.items + weight_of engine.now.cells.items)) }
     ensures capacity { vec_capacity index.new ≡ vec_capacity index.old }
 {
     let (here, next) = line_at(engine, label.host, &path_of(&label.act));
-    if is_near(is_same(here, seen.here), &label.act) {
-        relist_near(engine, label, seen, next, index);
-        false
-    } else {
-        relist_all(engine, done, index);
-        true
+    relist_near(engine, label, seen, next, index);
+    relist_moved(
+        engine,
+        label,
+        has_moved(is_same(here, seen.here), &label.act),
+        done,
+        index,
+    );
+}
+
+// Lists anew the Enters to the context of a label, where it moved. The first tickets, so many, are done.
+fn relist_moved(engine: &Engine, label: &Label, moved: bool, done: usize, index: &mut Vec<Ready>)
+    requires listable { IsListable (kept_of engine.now) }
+    requires done { AreDone (kept_of engine.now) done }
+    requires room { vec_len index.old + weight_of engine.now.cells.items ≤ vec_capacity index.old }
+    ensures renews { Renews (kept_of engine.now) (IsEntering (kept_of engine.now) (label_of label.now) moved) index.old.items index.new.items }
+    ensures len { vec_len index.new ≤ vec_len index.old + weight_of engine.now.cells.items }
+    ensures capacity { vec_capacity index.new ≡ vec_capacity index.old }
+{
+    if moved {
+        relist_enters(engine, label.host, &path_of(&label.act), done, index);
     }
 }
 
-// Lists what a ticket asks for. One that is done is passed by.
-fn list(engine: &Engine, ticket: Ticket, cell: &Cell<Actor>, index: &mut Vec<Ready>)
-    requires stores { length engine.now.stores.items ≤ 8 }
-    requires numbered { IsNumbered cell.now.outbox }
-    requires room { vec_len index.old + share_of cell.now ≤ vec_capacity index.old }
-    ensures lists { Lists ticket.0 0 index.old.items index.new.items (asked_of engine.now.stores.items ticket.0 cell.now) }
-    ensures len { vec_len index.new ≤ vec_len index.old + share_of cell.now }
+// Lists anew the Enters to a context at a host. The first tickets, so many, are done.
+fn relist_enters(engine: &Engine, host: Host, path: &Path, done: usize, index: &mut Vec<Ready>)
+    requires listable { IsListable (kept_of engine.now) }
+    requires done { AreDone (kept_of engine.now) done }
+    requires room { vec_len index.old + weight_of engine.now.cells.items ≤ vec_capacity index.old }
+    ensures renews { Renews (kept_of engine.now) (λ u j. is_enter host.0 path.now (mail_at (kept_of engine.now) u j) ≡ true) index.old.items index.new.items }
+    ensures len { vec_len index.new ≤ vec_len index.old + weight_of engine.now.cells.items }
     ensures capacity { vec_capacity index.new ≡ vec_capacity index.old }
 {
-    if cell.is_done() {
-        return;
+    for i in done..engine.cells.len() {
+        let ticket = Ticket(engine.first + i as u32);
+        relist_entering(engine, ticket, engine.cells[i].mails(), host, path, index);
     }
-    put_some(
-        index,
-        status_label(engine, Worker(0), ticket, &cell.status()),
-    );
-    list_mails(engine, ticket, cell.mails(), index);
+}
+
+// The same of the mails of one ticket.
+fn relist_entering(
+    engine: &Engine,
+    ticket: Ticket,
+    mails: &[(u32, Envelope)],
+    host: Host,
+    path: &Path,
+    index: &mut Vec<Ready>,
+)
+    requires listable { IsListable (kept_of engine.now) }
+    requires room { vec_len index.old + length mails.now ≤ vec_capacity index.old }
+    ensures renews { Renews (kept_of engine.now) (λ u j. (u ≡ ticket.0) × IsAmong host.0 path.now mails.now (length mails.now) j) index.old.items index.new.items }
+    ensures len { vec_len index.new ≤ vec_len index.old + length mails.now }
+    ensures capacity { vec_capacity index.new ≡ vec_capacity index.old }
+{
+    for mail in mails {
+        relist_if(engine, ticket, mail.0, is_enter(&mail.1, host, path), index);
+    }
+}
+
+// Lists anew what a number of a ticket asks for, where it is wanted.
+fn relist_if(engine: &Engine, ticket: Ticket, number: u32, wanted: bool, index: &mut Vec<Ready>)
+    requires listable { IsListable (kept_of engine.now) }
+    requires room { vec_len index.old < vec_capacity index.old }
+    ensures renews { Renews (kept_of engine.now) (λ u j. (wanted ≡ true) × ((u ≡ ticket.0) × (j ≡ number))) index.old.items index.new.items }
+    ensures len { vec_len index.new ≤ vec_len index.old + 1 }
+    ensures capacity { vec_capacity index.new ≡ vec_capacity index.old }
+{
+    if wanted {
+        relist_slot(engine, ticket, number, QUEUE, index);
+    }
+}
+
+// Whether a mail is an Enter to a context at a host.
+fn is_enter(envelope: &Envelope, host: Host, path: &Path) -> bool
+    ensures { result ≡ is_enter host.0 path.now (Some envelope.now) }
+{
+    envelope.to == host && (envelope.path == *path && is_entering(&envelope.letter))
+}
+
+fn is_entering(letter: &Letter) -> bool
+    ensures { result ≡ is_enter_in letter.now }
+{
+    matches!(letter, Letter::Enter { .. })
 }
 
 // Lists the mails of a ticket, in ascending order.
@@ -337,12 +378,12 @@ fn other(next: Option<Ticket>, ticket: Ticket) -> Option<Ticket>
     }
 }
 
-// Whether no Enter goes another way after a label: its context stays, or stays away, or the label is a Queue, by which one is born that
-// was nowhere.
-fn is_near(same: bool, act: &Act) -> bool
-    ensures { result ≡ (same || is_queue (act_of act.now)) }
+// Whether Enters may go another way after a label: its context neither stays, nor stays away, and is none that is born, which was
+// nowhere.
+fn has_moved(same: bool, act: &Act) -> bool
+    ensures { result ≡ not (same || is_queue (act_of act.now)) }
 {
-    same || is_queue(act)
+    !(same || is_queue(act))
 }
 
 // Whether two tests say the same.

@@ -6,10 +6,12 @@ use Rattle.wave_base.specs.declared.numbers.Ticket.{Ticket}
 use Rattle.wave_base.specs.declared.path.Path.{Path}
 use Rattle.wave_base.specs.declared.start.Start.{Start}
 use Rattle.wave_base.specs.Fold.{tickets_from}
+use Rattle.wave_base.specs.Paths.{path_eq}
 use Rattle.wave_labels.specs.declared.label.Label as program
 use Rattle.wave_labels.specs.Labels.{act_of}
 use Rattle.context_queue.specs.declared.entry.Entry.{Entry}
 use Rattle.context_queue.specs.Entries.{entry_of, next_in}
+use Rattle.migration_core.specs.declared.mail.Letter.{Letter}
 use Rattle.migration_core.specs.declared.mail.Letter.TheVariants as letter
 use Rattle.event_cells.specs.declared.cell.Cell.{Cell}
 use Rattle.event_cells.specs.declared.outbox.Envelope.{Envelope}
@@ -248,6 +250,46 @@ pub record RelistsNear (m : Kept) (t k n : ℕ) (asked : Bool) (before after : O
   pub parts : (h : List Label) → IsHead h → (part : ℕ → ℕ → List Label) → AreOwn part → (asked ≡ false → part t 0 ≡ []) → ((j : ℕ) → n < j → part t j ≡ []) → k ≤ n → map by_none old ≡ in_order (h ++ by_slot m part)
       → map by_none new ≡ in_order (h ++ by_slot m (with_next m after (with_next m before (with_above m t n (with_own m t k part)))))
 
+-- an Enter to a context at a host
+abbrev pub is_enter_in : Letter → Bool
+is_enter_in (letter.Enter number followed peek) = true
+is_enter_in _ = false
+
+abbrev pub is_enter : ℕ → Path → Option Envelope → Bool
+is_enter h p None = false
+is_enter h p (Some e) = (e.to.0 == h) && (path_eq e.path p && is_enter_in e.letter)
+
+-- the mail of a ticket's number
+abbrev pub mail_by : ℕ → Option (Cell Actor) → Option Envelope
+mail_by j None = None
+mail_by j (Some c) = mail_in c.outbox.mails j
+
+abbrev pub mail_at : Kept → ℕ → ℕ → Option Envelope
+mail_at m u j = mail_by j (cell_at m u)
+
+-- a slot of an Enter to a label's context, where that moved
+abbrev pub IsEntering : Kept → Label → Bool → ℕ → ℕ → Type 0
+IsEntering m l moved u j = (moved && is_enter l.host (path_of l.act) (mail_at m u j)) ≡ true
+
+-- Each slot has what it asks for now, or what it had and need not have it.
+pub record IsRenewed (m : Kept) (Must : ℕ → ℕ → Type 0) (old new : ℕ → ℕ → List Label) : Type 0 where
+  pub own : AreOwn new
+  pub each : (u j : ℕ) → (new u j ≡ slot_at m u j) ⊎ ((new u j ≡ old u j) × (Must u j → ⊥))
+
+-- these slots, if not more, were listed anew; the head's stays
+pub record Renews (m : Kept) (Must : ℕ → ℕ → Type 0) (old new : List Ready) : Type 0 where
+  pub parts : (h : List Label) → IsHead h → (part : ℕ → ℕ → List Label) → AreOwn part → map by_none old ≡ in_order (h ++ by_slot m part)
+      → (later : ℕ → ℕ → List Label) × IsRenewed m Must part later × (map by_none new ≡ in_order (h ++ by_slot m later))
+
+-- one of the first mails, so many, has the number and is such an Enter
+pub record IsAmong (h : ℕ) (p : Path) (mails : List (ℕ × Envelope)) (n j : ℕ) : Type 0 where
+  pub at : ℕ
+  pub low : at < n
+  pub mail : ℕ × Envelope
+  pub there : slice_get mails at ≡ Some mail
+  pub number : mail.0 ≡ j
+  pub enter : is_enter h p (Some mail.1) ≡ true
+
 -- the Admit of the next ticket stands there
 abbrev pub is_admit : Option Ticket → Option Ready → Bool
 is_admit None r = false
@@ -256,11 +298,6 @@ is_admit (Some t) r = is_of 0 t.0 0 r
 -- what the head asks for
 abbrev pub head_in : Kept → List Label
 head_in m = admit_labels 0 m.head ++ commit_labels 0 (m.first + length m.settled.results) m.commits
-
--- what of it is left in the list once a label was listed; nothing where all was listed anew
-abbrev pub head_left : Bool → List Label → List Label
-head_left true h = []
-head_left false h = h
 
 -- all that is asked for, in order
 abbrev pub IsIndex : Kept → List Ready → Type 0
@@ -307,9 +344,9 @@ pub record IsListed (x : Listed) : Type 0 where
   pub weight : weight_of (kept_of x.engine).cells ≤ x.weight
 
 -- Room for what a label lists anew: what the status and the mail of its ticket, and the statuses of who was and is next, ask for; what
--- the mails ask for that came, or all; and the head.
+-- the mails ask for that came; what all Enters to its context ask for; and the head.
 pub record HasRoom (x : Listed) (more : ℕ) : Type 0 where
-  pub room : vec_len x.index + (x.weight + more + 8) ≤ vec_capacity x.index
+  pub room : vec_len x.index + ((x.weight + more) + (x.weight + more) + 10) ≤ vec_capacity x.index
   pub fits : x.weight + more + 2 < 2 ^ 64
 
 -- ---- what is looked at before a label is taken
@@ -337,6 +374,8 @@ pub record Sees (m : Kept) (host t : ℕ) (p : Path) (seen : Seen) : Type 0 wher
 pub record KeepsMails (m m' : Kept) (l : Label) : Type 0 where
   pub kept : (i : ℕ) (c c' : Cell Actor) → m.first + i ≡ ticket_of l.act → slice_get m.cells i ≡ Some c → slice_get m'.cells i ≡ Some c'
       → (j : ℕ) → j ≤ c.outbox.sent → j ≢ act_number l.act → (stores : List Stores) → mail_labels stores 0 (ticket_of l.act) j (mail_in c'.outbox.mails j) ≡ mail_labels stores 0 (ticket_of l.act) j (mail_in c.outbox.mails j)
+  pub enter : (i : ℕ) (c c' : Cell Actor) → m.first + i ≡ ticket_of l.act → slice_get m.cells i ≡ Some c → slice_get m'.cells i ≡ Some c'
+      → (j : ℕ) → j ≤ c.outbox.sent → j ≢ act_number l.act → (h : ℕ) (p : Path) → is_enter h p (mail_in c'.outbox.mails j) ≡ is_enter h p (mail_in c.outbox.mails j)
   pub sent : (i : ℕ) (c c' : Cell Actor) → m.first + i ≡ ticket_of l.act → slice_get m.cells i ≡ Some c → slice_get m'.cells i ≡ Some c' → c.outbox.sent ≤ c'.outbox.sent
   pub number : act_number l.act ≤ sent_at m (ticket_of l.act)
 
@@ -352,7 +391,13 @@ pub record IsNowhere (m : Kept) (p : Path) : Type 0 where
   pub enters : (i k : ℕ) (c : Cell Actor) (e : Envelope) (number followed : ℕ) (peek : Bool) → slice_get m.cells i ≡ Some c → mail_in c.outbox.mails k ≡ Some e → e.path ≡ p → e.letter ≡ letter.Enter number followed peek → followed ≡ 0
   pub none_ready : (i : ℕ) (c : Cell Actor) → slice_get m.cells i ≡ Some c → c.status ≡ status.Ready p → ⊥
 
--- A label was taken, before which so much was seen. A Queue leaves its context where it is, or the context was nowhere.
+-- no other host has the label's context, and no other ticket is ready there
+pub record IsAlone (m : Kept) (l : Label) : Type 0 where
+  pub elsewhere : (h : ℕ) → h ≢ l.host → has_at (path_of l.act) (slice_get m.stores h) ≡ false
+  pub none_ready : (i : ℕ) (c : Cell Actor) → m.first + i ≢ ticket_of l.act → slice_get m.cells i ≡ Some c → c.status ≡ status.Ready (path_of l.act) → ⊥
+
+-- A label was taken, before which so much was seen. A Queue leaves its context where it is, or the context was nowhere; where it comes
+-- or goes, it is here alone.
 pub record Taken (m m' : Kept) (l : Label) (seen : Seen) (more : ℕ) : Type 0 where
   pub stands : (start : Start) × (s : TheState) × Stands m' start s
   pub moves : Moves m m' l more
@@ -361,6 +406,7 @@ pub record Taken (m m' : Kept) (l : Label) (seen : Seen) (more : ℕ) : Type 0 w
   pub grows : new_cells l.act ≡ 1 → ticket_of l.act ≡ m.first + length m.cells
   pub sees : Sees m l.host (ticket_of l.act) (path_of l.act) seen
   pub born : is_queue l.act ≡ true → (has_at (path_of l.act) (slice_get m'.stores l.host) ≡ has_at (path_of l.act) (slice_get m.stores l.host)) ⊎ IsNowhere m (path_of l.act)
+  pub alone : has_at (path_of l.act) (slice_get m'.stores l.host) ≢ has_at (path_of l.act) (slice_get m.stores l.host) → IsAlone m l
 
 -- and the list is still that of what was kept before
 pub record Updating (m : Kept) (x : Listed) (l : Label) (seen : Seen) (more : ℕ) : Type 0 where

@@ -5,7 +5,7 @@ use Rattle.wave_effects.specs.declared.engine.Engine.{Engine}
 use Rattle.wave_effects.specs.Keeping.{kept_of}
 use Rattle.wave_effects.specs.Machines.{Takes}
 use Rattle.wave_machine.specs.inner.Index.{Sees}
-use Rattle.wave_machine.proofs.Births.{queue_born}
+use Rattle.wave_machine.proofs.Births.{alone_here, queue_born}
 use Rattle.wave_machine.proofs.Grows.{admit_grows}
 use Rattle.wave_machine.proofs.KeptMails.{mails_taken, numbered_stood}
 use Rattle.wave_effects.proofs.Labelled.{stood_after}
@@ -31,6 +31,7 @@ update-requires c =
           numbered = numbered_stood c.states_are_known.ensures m (record { start = on.start; state = on.state; stands = on.stands });
           grows = admit_grows m l on;
           sees = sees;
+          alone = alone_here c.states_list.ensures.can m m' l 0 (record { start = on.start; state = on.state; stands = on.stands }) stood c.act.ensures.moves;
           born = queue_born m m' l 0 on (c.states_list.ensures.can m.plan on.start on.stands.labels on.state on.stands.fits on.stands.begins on.stands.reached) c.act.ensures.takes c.act.ensures.moves;
         };
         index = c.requires.listed.index;

@@ -6,7 +6,7 @@ use Rattle.wave_effects.specs.Actors.{MayRun}
 use Rattle.wave_effects.specs.Keeping.{kept_of}
 use Rattle.wave_effects.specs.Machines.{Takes}
 use Rattle.wave_machine.specs.inner.Index.{Sees}
-use Rattle.wave_machine.proofs.Births.{begins_not}
+use Rattle.wave_machine.proofs.Births.{alone_here, begins_not}
 use Rattle.wave_machine.proofs.Grows.{admit_grows}
 use Rattle.wave_machine.proofs.KeptMails.{mails_taken, numbered_stood}
 use Rattle.wave_effects.proofs.Labelled.{stood_after}
@@ -32,6 +32,7 @@ update-requires c =
           numbered = numbered_stood c.states_are_known.ensures m (record { start = on.start; state = on.state; stands = on.stands });
           grows = admit_grows m l on;
           sees = sees;
+          alone = alone_here c.states_list.ensures.can m m' l 0 (record { start = on.start; state = on.state; stands = on.stands }) stood c.act_start-lease.ensures.moves;
           born = λ queue. absurd (begins_not c.args.label.now.act c.requires.kind queue);
         };
         index = c.requires.listed.index;

@@ -14,6 +14,7 @@ use Rattle.wave_effects.proofs.Labelled.{stood_stopped}
 use Rattle.wave_effects.proofs.Unasked.{same_asks}
 use Rattle.wave_machine.specs.inner.Index.{HasRoom, KeepsMails, Sees, held_at, held_by, is_queue}
 use Rattle.wave_machine.proofs.Asked.{listed_same, listed_still, room_same}
+use Rattle.wave_machine.proofs.Births.{alone_here}
 use Rattle.wave_machine.proofs.KeptMails.{mails_stopped, numbered_stood}
 use Rattle.wave_machine.proofs.Owned as owned
 use Rattle.wave_machine.proofs.Roomier.{same_self}
@@ -65,6 +66,7 @@ update-requires c =
           numbered = numbered_stood c.states_are_known.ensures m (record { start = on.start; state = on.state; stands = on.stands });
           grows = λ one. absurd (let none : new_cells l.act ≡ 0 = ap (λ (z : Label). new_cells z.act) is in omega (arith, one, none));
           sees = sees;
+          alone = alone_here c.states_list.ensures.can m m' l (1 + length some.0.held.holds) (record { start = on.start; state = on.state; stands = on.stands }) stood moves;
           born = λ queue. absurd (true≢false (sym queue ∙ ap (λ (z : Label). is_queue z.act) is));
         };
         index = listed.index;

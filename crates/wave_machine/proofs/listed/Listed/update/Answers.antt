@@ -1,8 +1,8 @@
 use Rattle.std.proofs.Common.{◌∙◌, ap, arith}
 use Rattle.wave_labels.specs.Labels.{label_of}
 use Rattle.wave_effects.specs.Keeping.{kept_of}
-use Rattle.wave_machine.specs.inner.Index.{asked_at, by_part, head_in, head_left, share_at}
-use Rattle.wave_machine.proofs.Heads.{head_is, left_is, still}
+use Rattle.wave_machine.specs.inner.Index.{asked_at, by_part, head_in, share_at}
+use Rattle.wave_machine.proofs.Heads.{head_is, still}
 use Rattle.wave_effects.proofs.Sized.{listable}
 use Rattle.wave_machine.proofs.Updated.{inner_part}
 use Rattle.wave_machine.proofs.Weighed.{weighed}
@@ -24,14 +24,14 @@ overflow_add-self c =
     let fits = (u.2).room.fits in
     omega (arith, bound, fits)
 
-pub relist_after-whole-requires-clause-listable : goal.relist_after-whole-requires-clause-listable
-relist_after-whole-requires-clause-listable c =
+pub relist_after-requires-clause-listable : goal.relist_after-requires-clause-listable
+relist_after-requires-clause-listable c =
     let m = kept_of c.args.self.now.engine in
     let r = (c.requires.2).taken.stands in
     listable c.states_are_known.ensures m r.0 r.1 r.2 (c.heads_are_known.ensures m.plan r.0 (r.2).labels r.1 (r.2).fits (r.2).begins (r.2).reached)
 
-pub relist_after-whole-requires-clause-room : goal.relist_after-whole-requires-clause-room
-relist_after-whole-requires-clause-room c =
+pub relist_after-requires-clause-room : goal.relist_after-requires-clause-room
+relist_after-requires-clause-room c =
     let u = c.requires in
     let l = label_of c.args.label.now in
     let w = weighed u.0 c.args.self.now l c.args.seen u.1 c.share_at-share.result u.2 (c.share_at-share.ensures ∙ ap (share_at (kept_of c.args.self.now.engine)) c.ticket_of.ensures) in
@@ -52,7 +52,7 @@ renew_head-requires-clause-room c =
     let w = weighed u.0 c.args.self.now l c.args.seen u.1 c.share_at-share.result u.2 (c.share_at-share.ensures ∙ ap (share_at (kept_of c.args.self.now.engine)) c.ticket_of.ensures) in
     let small = w.small in
     let room = (u.2).room.room in
-    omega (arith, small, room, c.relist_after-whole.ensures.len, c.relist_after-whole.ensures.capacity)
+    omega (arith, small, room, c.relist_after.ensures.len, c.relist_after.ensures.capacity)
 
 pub returns-clause-listed : goal.returns-clause-listed
 returns-clause-listed c =
@@ -61,10 +61,9 @@ returns-clause-listed c =
     let l = label_of c.args.label.now in
     let w = weighed u.0 c.args.self.now l c.args.seen u.1 c.share_at-share.result u.2 (c.share_at-share.ensures ∙ ap (share_at m') c.ticket_of.ensures) in
     let m = u.0 in
-    let left = head_left c.relist_after-whole.result (head_in m) in
     record {
-      index = c.renew_head.ensures.parts left (by_part m' (asked_at m')) (left_is c.relist_after-whole.result m) (still c.relist_after-whole.result c.changes_head.result m m' l c.changes_head.ensures (u.2).taken.moves) (inner_part m')
-          (c.relist_after-whole.ensures.all m u.1 (head_in m) (u.2).taken (head_is m) (u.2).index);
+      index = c.renew_head.ensures.parts (head_in m) (by_part m' (asked_at m')) (head_is m) (still c.is_on_head.result m m' l c.is_on_head.ensures (u.2).taken.moves) (inner_part m')
+          (c.relist_after.ensures.all m u.1 (head_in m) (u.2).taken (head_is m) (u.2).index);
       done = c.count_done-self.ensures;
       weight = w.keeps;
     }
