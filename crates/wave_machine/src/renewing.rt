@@ -1,4 +1,4 @@
-//! What the index has of a ticket, of all tickets and of the head, listed anew.
+//! What the index has of a ticket, of those that enter a context, and of the head, listed anew.
 
 ghost use Rattle.std.specs.Prelude.{not, ◌≡◌, false, ◌↔◌, ◌≤◌, ◌<◌, ◌+◌, ◌++◌, ◌^◌, ◌||◌, ℕ, IsTrue, List, Option, Some, true, drop, flat_map, length, map, is_some, option_map, slice_get, take, vec_len, vec_capacity};
 ghost use Rattle.std.specs.List.{AllByRecursion};
@@ -32,8 +32,8 @@ use wave_base::{Host, Path, Ticket, Worker};
 use wave_effects::{Actor, Engine};
 use wave_labels::{Act, Label, MailId};
 
-// Lists anew what a label changes by which its context stays, or stays away, or is born: what the ticket's status asks for and the
-// label's mail, the mails that it sent, and who was next in the line of the context, and who is, where they are others.
+// Lists anew what any label changes: what the ticket's status asks for and the label's mail, the mails that it sent, and who was next in
+// the line of the context, and who is, where they are others.
 fn relist_near(
     engine: &Engine,
     label: &Label,
