@@ -19,7 +19,7 @@ pub(crate) fn take(board: &mut Board, number: Worker) -> Result<Task, OutOfMemor
 {
     match board.take(number) {
         Ok(Turn::Stepped(_)) => Ok(walk(board, number)),
-        Ok(Turn::Segment(lease)) => Ok(Task::Segment(lease)),
+        Ok(Turn::Segment(parcel)) => Ok(Task::Segment(parcel)),
         Ok(Turn::Nothing) => Ok(Task::Rest),
         Ok(Turn::Finished) => Ok(Task::Finished),
         Ok(Turn::Stopped(why)) => Ok(Task::Stopped(why)),
@@ -38,7 +38,7 @@ fn walk(board: &mut Board, number: Worker) -> Task
     for _ in 0..u64::MAX {
         match board.take(number) {
             Ok(Turn::Stepped(_)) => {}
-            Ok(Turn::Segment(lease)) => return Task::Segment(lease),
+            Ok(Turn::Segment(parcel)) => return Task::Segment(parcel),
             Ok(Turn::Nothing) => return Task::Rest,
             Ok(Turn::Finished) => return Task::Again,
             Ok(Turn::Stopped(_)) => return Task::Again,

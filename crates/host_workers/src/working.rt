@@ -17,8 +17,8 @@ use kept_lock::{KeptLock, Pass};
 use std::alloc::Global;
 use std::sync::Wait;
 use wave_base::{OutOfMemory, Worker};
-use wave_board::{Board, StopCause};
-use wave_effects::{Lease, Plan, run_lease};
+use wave_board::{Board, Parcel, StopCause};
+use wave_effects::Plan;
 use wave_io::Gate;
 
 /// Takes what can be done and runs segments until all is done, or somebody stops the workers. A segment is run outside the lock, and given
@@ -109,7 +109,7 @@ pub(crate) fn carry_out<'l, 'p, R: Wait, G: Gate>(
 {
     match task {
         Task::Again => Ok(None),
-        Task::Segment(lease) => match run_out(post, &*pass, lease) {
+        Task::Segment(parcel) => match run_out(post, &*pass, parcel) {
             Ok(packet) => Ok(Some(packet)),
             Err(refused) => Err(give_up(post, pass, refused)),
         },
@@ -126,18 +126,20 @@ pub(crate) fn carry_out<'l, 'p, R: Wait, G: Gate>(
 fn run_out<'l, 'p, R: Wait, G: Gate>(
     post: &Post<'l, 'p, R, G>,
     pass: &Pass<Board<'p>>,
-    mut lease: Lease,
+    parcel: Parcel,
 ) -> Result<Packet, OutOfMemory>
     requires plan { (name_of post.now.lock.now).plan.now ≡ post.now.plan.now }
-    requires leased { HasLease (name_of post.now.lock.now) (knowledge pass.now) post.now.number lease }
+    requires leased { HasLease (name_of post.now.lock.now) (knowledge pass.now) post.now.number parcel }
     ensures { IfOk result (λ p. HasPaused (name_of post.now.lock.now) (knowledge pass.now) post.now.number p.lease p.pause) }
 {
+    let mut parcel = parcel;
+    let lease = parcel.lease();
     post.gate.reach(lease.ticket, &lease.path);
     let before = lease.actor.ticks();
-    let pause = run_lease(post.alloc, &post.plan.program, &mut lease)?;
-    let ticks = before.saturating_sub(lease.actor.ticks());
+    let pause = parcel.run(post.alloc, &post.plan.program)?;
+    let ticks = before.saturating_sub(parcel.lease().actor.ticks());
     Ok(Packet {
-        lease,
+        lease: parcel,
         pause,
         ticks,
     })

@@ -21,7 +21,6 @@ use Rattle.plan_actors.specs.Plans.{Plan}
 use Rattle.service_verify.specs.Fit.{IsFit}
 use Rattle.wave_effects.specs.declared.lease.Lease.{Lease}
 use Rattle.wave_effects.specs.declared.plan.Plan as declared
-use Rattle.wave_effects.specs.declared.refused.Refused.{Refused}
 use Rattle.wave_effects.specs.Actors.{MayRun}
 use Rattle.wave_effects.specs.Leases as leases
 use Rattle.wave_effects.specs.Leases.{StandsFor}
@@ -33,6 +32,7 @@ use Rattle.wave_board.specs.declared.board.Board.{Board}
 use Rattle.wave_board.specs.declared.origin.Origin.{Origin}
 use Rattle.wave_board.specs.declared.trail.StopCause.{StopCause}
 use Rattle.wave_board.specs.declared.trail.Trail.TheVariants.{Halt}
+use Rattle.wave_board.specs.declared.returned.Returned.{Returned}
 use Rattle.wave_board.specs.Boards.{InEachState, IsAt, IsStanding, StandsFor as BoardStandsFor, StandsStill, history_of}
 use Rattle.wave_board.specs.Giving.{CanGive, Gives, IsGiven}
 use Rattle.wave_board.specs.Taking.{IsAppended, IsFinished, IsLeased, MayTake}
@@ -191,12 +191,12 @@ module _ (plan : declared.Plan) (b b' : Board) (still : StandsStill b b') where
 
 -- what comes of giving back
 module _ (plan : declared.Plan) (b b' : Board) (lease : Lease) (why : Pause) (x : HasRun plan b lease why) where
-  pub given_back : (r : Result (Unit {0}) Refused) → OnOk r (Gives b lease why b') → OnOk r (IsGiven b b' lease) → OnOk r (IsReady plan b')
+  pub given_back : (r : Result (Unit {0}) Returned) → OnOk r (Gives b lease why b') → OnOk r (IsGiven b b' lease) → OnOk r (IsReady plan b')
   given_back (Ok u) gives given = ready_given plan b lease why b' x gives given
   given_back (Err e) gives given = tt
 
-  pub refused : HandsStayOver (plan_actors (plan_of x.stands.origin.plan.now).program) → (r : Result (Unit {0}) Refused) → IfErr r (λ e. (e.lease ≡ lease) × (e.pause ≡ why)) → OnErr r (StandsStill b b') → OnErr r (history_of b' ≡ history_of b)
-      → IfErr r (λ e. HasRun plan b' e.lease e.pause)
+  pub refused : HandsStayOver (plan_actors (plan_of x.stands.origin.plan.now).program) → (r : Result (Unit {0}) Returned) → IfErr r (λ e. (e.parcel ≡ lease) × (e.pause ≡ why)) → OnErr r (StandsStill b b') → OnErr r (history_of b' ≡ history_of b)
+      → IfErr r (λ e. HasRun plan b' e.parcel e.pause)
   refused stay (Ok u) same still e = tt
   refused stay (Err r) same still e =
       subst (λ (l : Lease). HasRun plan b' l r.pause) (sym same.0) (subst (λ (p : Pause). HasRun plan b' lease p) (sym same.1) (run_same plan b b' still e lease why x stay))

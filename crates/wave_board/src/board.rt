@@ -32,6 +32,7 @@ pub struct StopWord {
 /// A machine with its journal. Its history is the journal, with the Halt where the workers were stopped.
 #[derive(Drop)]
 pub struct Board<'p> {
+    pub(crate) alloc: Global,
     pub(crate) machine: Machine<'p>,
     pub(crate) journal: Recorder,
     pub(crate) word: Option<StopWord>,
@@ -62,6 +63,7 @@ impl<'p> Board<'p> {
     {
         let machine = Machine::new(alloc, plan)?;
         Ok(Board {
+            alloc,
             machine,
             journal: Recorder::new(alloc),
             word: None,
@@ -78,6 +80,7 @@ impl<'p> Board<'p> {
     {
         let machine = Machine::new_at(alloc, plan, start)?;
         Ok(Board {
+            alloc,
             machine,
             journal: Recorder::new(alloc),
             word: None,

@@ -21,6 +21,7 @@ impl<'p> Board<'p> {
         ensures back { IfErr result (λ e. e.0 ≡ self.entry) }
     {
         let Board {
+            alloc,
             machine,
             journal,
             word,
@@ -30,6 +31,7 @@ impl<'p> Board<'p> {
             Ok(finished) => Ok((finished, journal.into_log())),
             Err((machine, error)) => Err((
                 Board {
+                    alloc,
                     machine,
                     journal,
                     word,

@@ -8,6 +8,7 @@ ghost use Rattle.wave_board.specs.inner.Doing.{Appends, CanAppend, Chooses};
 
 use crate::board::Board;
 use crate::known::{idle_hands_are_empty, lists_are_known};
+use crate::parcel::Parcel;
 use crate::turn::Turn;
 use label_log::path_of;
 use wave_base::{OutOfMemory, Worker};
@@ -67,9 +68,10 @@ impl<'p> Board<'p> {
     {
         self.journal.reserve(&path_of(&label.act))?;
         if is_start(&label.act) {
+            let place = Box::new(self.alloc, None)?;
             let lease = self.machine.take_start(&label)?;
             self.journal.push_reserved(&label);
-            return Ok(Turn::Segment(lease));
+            return Ok(Turn::Segment(Parcel::of(place, lease)));
         }
         self.machine.take(&label)?;
         self.journal.push_reserved(&label);

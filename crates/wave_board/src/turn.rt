@@ -1,7 +1,7 @@
 //! What a worker gets from a board.
 
+use crate::parcel::Parcel;
 use crate::trail::StopCause;
-use wave_effects::Lease;
 use wave_labels::Label;
 
 /// What a worker gets from a board.
@@ -10,7 +10,7 @@ pub enum Turn {
     /// This label was taken, and it is done.
     Stepped(Label),
     /// A segment is out: it is to be run, and given back.
-    Segment(Lease),
+    Segment(Parcel),
     /// There is nothing for this worker now.
     Nothing,
     /// All is done.

@@ -32,7 +32,7 @@ fn take_turn(
     let work = board.take(Worker(0))?;
     match work {
         Turn::Stepped(_) => Ok(()),
-        Turn::Segment(lease) => give_back(alloc, plan, board, lease),
+        Turn::Segment(parcel) => give_back(alloc, plan, board, parcel),
         Turn::Nothing | Turn::Finished | Turn::Stopped(_) => panic!(rt; "no turn"),
     }
 }

@@ -16,11 +16,11 @@ use std::process::Abort;
 use std::test::Fail;
 use tests_services::TICK;
 use wave_base::{OutOfMemory, Start, Worker};
-use wave_board::Board;
-use wave_effects::{Lease, Plan};
+use wave_board::{Board, Parcel};
+use wave_effects::Plan;
 
 // The first worker takes the one event as far as its segment.
-fn begin(rt: &impl Abort, plan: &Plan, board: &mut Board) -> Result<Lease, OutOfMemory>
+fn begin(rt: &impl Abort, plan: &Plan, board: &mut Board) -> Result<Parcel, OutOfMemory>
     requires { IsReady plan.now board.old }
     ensures { IfOk result (IsOut plan.now board.new) }
 {
@@ -44,9 +44,9 @@ fn share(rt: &impl Abort, alloc: Global, plan: &Plan, board: &mut Board) -> Resu
     requires { IsReady plan.now board.old }
     ensures { OnOk result (IsReady plan.now board.new) }
 {
-    let lease = begin(rt, plan, board)?;
-    find_nothing(rt, plan, board, &lease, Worker(1))?;
-    give_back(alloc, plan, board, lease)?;
+    let parcel = begin(rt, plan, board)?;
+    find_nothing(rt, plan, board, &parcel, Worker(1))?;
+    give_back(alloc, plan, board, parcel)?;
     end(rt, plan, board)
 }
 

@@ -11,8 +11,8 @@ use std::alloc::Global;
 use std::process::Abort;
 use tests_machine::Case;
 use wave_base::{OutOfMemory, Pause, Start, Worker};
-use wave_board::{Board, Turn};
-use wave_effects::{Lease, Plan, Refused, run_lease};
+use wave_board::{Board, Parcel, Returned, Turn};
+use wave_effects::Plan;
 use wave_theory::hands_stay_over;
 
 // The plan of a service's text and a script's, which are right.
@@ -85,7 +85,7 @@ pub(super) fn take_segment(
     plan: &Plan,
     board: &mut Board,
     worker: Worker,
-) -> Result<Lease, OutOfMemory>
+) -> Result<Parcel, OutOfMemory>
     requires { IsReady plan.now board.old }
     ensures { IfOk result (IsOut plan.now board.new) }
 {
@@ -94,7 +94,7 @@ pub(super) fn take_segment(
     }
     let work = board.take(worker)?;
     match work {
-        Turn::Segment(lease) => Ok(lease),
+        Turn::Segment(parcel) => Ok(parcel),
         Turn::Stepped(_) | Turn::Nothing | Turn::Finished | Turn::Stopped(_) => {
             panic!(rt; "no segment")
         }
@@ -106,17 +106,17 @@ pub(super) fn find_nothing(
     rt: &impl Abort,
     plan: &Plan,
     board: &mut Board,
-    lease: &Lease,
+    parcel: &Parcel,
     worker: Worker,
 ) -> Result<(), OutOfMemory>
-    requires { IsOut plan.now board.old lease.now }
-    ensures { OnOk result (IsOut plan.now board.new lease.now) }
+    requires { IsOut plan.now board.old parcel.now }
+    ensures { OnOk result (IsOut plan.now board.new parcel.now) }
 {
     hands_stay_over::<PlanActors>();
     if worker.0 >= plan.workers {
         panic!(rt; "no worker");
     }
-    if lease.worker.0 == worker.0 {
+    if parcel.lease().worker.0 == worker.0 {
         panic!(rt; "no other worker");
     }
     let work = board.take(worker)?;
@@ -133,36 +133,36 @@ pub(super) fn give_back(
     alloc: Global,
     plan: &Plan,
     board: &mut Board,
-    lease: Lease,
+    parcel: Parcel,
 ) -> Result<(), OutOfMemory>
-    requires { IsOut plan.now board.old lease }
+    requires { IsOut plan.now board.old parcel }
     ensures { OnOk result (IsReady plan.now board.new) }
 {
-    let mut lease = lease;
-    let pause = run_lease(alloc, &plan.program, &mut lease)?;
-    match give(plan, board, lease, pause) {
+    let mut parcel = parcel;
+    let pause = parcel.run(alloc, &plan.program)?;
+    match give(plan, board, parcel, pause) {
         Ok(()) => Ok(()),
-        Err(refused) => give_again(plan, board, refused),
+        Err(returned) => give_again(plan, board, returned),
     }
 }
 
 // Gives a segment back that was run. After want of memory it comes back.
-fn give(plan: &Plan, board: &mut Board, lease: Lease, pause: Pause) -> Result<(), Refused>
-    requires { HasRun plan.now board.old lease pause }
+fn give(plan: &Plan, board: &mut Board, parcel: Parcel, pause: Pause) -> Result<(), Returned>
+    requires { HasRun plan.now board.old parcel pause }
     ensures ready { OnOk result (IsReady plan.now board.new) }
-    ensures again { IfErr result (λ r. HasRun plan.now board.new r.lease r.pause) }
+    ensures again { IfErr result (λ r. HasRun plan.now board.new r.parcel r.pause) }
 {
     hands_stay_over::<PlanActors>();
-    board.give(lease, pause)
+    board.give(parcel, pause)
 }
 
 // Once more, after want of memory.
-fn give_again(plan: &Plan, board: &mut Board, refused: Refused) -> Result<(), OutOfMemory>
-    requires { HasRun plan.now board.old refused.lease refused.pause }
+fn give_again(plan: &Plan, board: &mut Board, returned: Returned) -> Result<(), OutOfMemory>
+    requires { HasRun plan.now board.old returned.parcel returned.pause }
     ensures { OnOk result (IsReady plan.now board.new) }
 {
-    match give(plan, board, refused.lease, refused.pause) {
+    match give(plan, board, returned.parcel, returned.pause) {
         Ok(()) => Ok(()),
-        Err(refused) => Err(refused.error),
+        Err(returned) => Err(returned.error),
     }
 }

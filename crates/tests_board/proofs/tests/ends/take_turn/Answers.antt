@@ -18,7 +18,7 @@ returns-in-Stepped g c =
 pub give_back-requires : goal.give_back-requires
 give_back-requires g c =
     let took = subst (Took c.args.board.now the_worker c.take.new.self) c.in-Segment.is c.in_ok-work.ensures.took in
-    is_out c.args.plan.now c.args.board.now c.take.new.self c.take.ensures.stands c.requires took.0 c.in-Segment.lease took.1 took.3
+    is_out c.args.plan.now c.args.board.now c.take.new.self c.take.ensures.stands c.requires took.0 c.in-Segment.parcel took.1 took.3
 
 pub returns-in-Segment : goal.returns-in-Segment
 returns-in-Segment g c = c.give_back.ensures

@@ -13,8 +13,8 @@ take-requires-clause-stands g c = standing c.args.plan.now c.args.board.now c.re
 pub take-requires-clause-may : goal.take-requires-clause-may
 take-requires-clause-may g c =
     let below : c.args.worker.0 < c.args.plan.now.workers = omega arith in
-    let other : nat_eq c.args.lease.now.worker.0 c.args.worker.0 ≡ false = elim (number_cases c.args.lease.now.worker.0 c.args.worker.0) [ inl is ↦ absurd (omega arith) | inr apart ↦ apart ] in
-    other_may_take c.args.plan.now c.args.board.now c.args.lease.now c.requires c.args.worker other below
+    let other : nat_eq c.args.parcel.now.worker.0 c.args.worker.0 ≡ false = elim (number_cases c.args.parcel.now.worker.0 c.args.worker.0) [ inl is ↦ absurd (omega arith) | inr apart ↦ apart ] in
+    other_may_take c.args.plan.now c.args.board.now c.args.parcel.now c.requires c.args.worker other below
 
 pub returns : goal.returns
 returns g c =
@@ -22,4 +22,4 @@ returns g c =
     let at = c.requires.stands.at in
     let plan = plan_of c.requires.stands.origin.plan.now in
     let fits = subst Fits at.plan at.fits in
-    out_same c.args.plan.now c.args.board.now c.take.new.self c.take.ensures.stands took.3 c.args.lease.now c.requires (c.hands_stay_over.ensures (setting_of plan.program fits.fit fits.verified plan.script.hosts))
+    out_same c.args.plan.now c.args.board.now c.take.new.self c.take.ensures.stands took.3 c.args.parcel.now c.requires (c.hands_stay_over.ensures (setting_of plan.program fits.fit fits.verified plan.script.hosts))

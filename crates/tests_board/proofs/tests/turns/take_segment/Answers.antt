@@ -14,4 +14,4 @@ take-requires-clause-may g c =
 pub returns : goal.returns
 returns g c =
     let took = subst (Took c.args.board.now c.args.worker c.take.new.self) c.in-Segment.is c.in_ok-work.ensures.took in
-    is_out c.args.plan.now c.args.board.now c.take.new.self c.take.ensures.stands c.requires took.0 c.in-Segment.lease took.1 took.3
+    is_out c.args.plan.now c.args.board.now c.take.new.self c.take.ensures.stands c.requires took.0 c.in-Segment.parcel took.1 took.3
