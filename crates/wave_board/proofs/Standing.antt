@@ -7,7 +7,6 @@ use Rattle.wave_labels.specs.declared.label.Act.TheVariants.{Start as Begin}
 use Rattle.wave_labels.specs.declared.label.Label.{Label}
 use Rattle.wave_labels.specs.Labels.{label_of}
 use Rattle.wave_states.specs.Begins.{start_state}
-use Rattle.wave_states.specs.Labels as theory
 use Rattle.wave_states.specs.Runs.{run}
 use Rattle.wave_states.specs.Steps.{step}
 use Rattle.wave_theory.proofs.Basics.{some_same}

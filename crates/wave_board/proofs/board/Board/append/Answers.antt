@@ -1,7 +1,8 @@
-use Rattle.std.proofs.Common.{◌≡◌, ◌∙◌, ◌∷◌, ◌++◌, [], true, refl, ap, sym}
+use Rattle.std.proofs.Common.{◌≡◌, ◌∙◌, ◌∷◌, ◌++◌, [], true, refl, ap, subst, sym}
 use Rattle.wave_base.specs.declared.numbers.Worker.{Worker}
 use Rattle.wave_effects.specs.Acts.{is_start}
 use Rattle.wave_board.specs.declared.board.Board.{Board}
+use Rattle.wave_board.specs.Taking.{IsLeased}
 use Rattle.wave_board.proofs.Standing.{enabled_in, history_more, leased, leased_start, still, taken}
 use Rattle.wave_board.proofs.board.Board.append.Goals as goal
 
@@ -13,6 +14,11 @@ take-requires-clause-enabled c = enabled_in c.args.self.now c.args.label c.requi
 
 pub returns-in_err-reserve-clause-stands : goal.returns-in_err-reserve-clause-stands
 returns-in_err-reserve-clause-stands c =
+    let after : Board = record c.args.self.now { journal = c.reserve.new.self } in
+    still c.args.self.now after c.reserve.ensures.labels refl (λ h. h) (λ start s stands. stands)
+
+pub returns-in_err-place-clause-stands : goal.returns-in_err-place-clause-stands
+returns-in_err-place-clause-stands c =
     let after : Board = record c.args.self.now { journal = c.reserve.new.self } in
     still c.args.self.now after c.reserve.ensures.labels refl (λ h. h) (λ start s stands. stands)
 
@@ -45,12 +51,12 @@ returns-then-is_start-clause-took c =
         goes_on = c.requires.can.goes_on;
         history = history_more b after c.args.label items refl plan c.requires.can.standing.at.word;
       },
-      record {
+      subst (IsLeased b after c.args.label) (sym c.of.ensures) (record {
         act = leased_start b c.args.label c.requires.can lease kind leases;
         worker = c.in_ok-lease.ensures.worker;
         in_hand = leased b after c.args.label items refl plan c.requires.can.enabled lease (ap (λ (w : Worker). w.0) c.in_ok-lease.ensures.worker) leases;
         may_run = c.in_ok-lease.ensures.may_run;
-      },
+      }),
     )
 
 pub returns-clause-stands : goal.returns-clause-stands

@@ -1,7 +1,7 @@
-use Rattle.std.proofs.Common.{◌≡◌, sym, subst}
+use Rattle.std.proofs.Common.{subst}
 use Rattle.wave_effects.specs.declared.lease.Lease.{Lease}
-use Rattle.wave_board.specs.Giving.{CanGive}
+use Rattle.wave_board.specs.Giving.{Gives}
 use Rattle.wave_board.proofs.board.Board.give.Goals as goal
 
-pub put_back-requires : goal.put_back-requires
-put_back-requires c = subst (λ (l : Lease). CanGive c.args.self.now l c.args.pause) (sym c.into_lease.ensures) c.requires
+pub returns-in-Ok-clause-stands : goal.returns-in-Ok-clause-stands
+returns-in-Ok-clause-stands c = subst (λ (l : Lease). Gives c.args.self.now l c.args.pause c.put_back.new.self) c.open-place.ensures c.in-Ok.ensures.stands
