@@ -51,7 +51,8 @@ impl<'p> Model for Machine<'p> {
     ghost use Rattle.wave_effects.specs.Keeping.{kept_of};
     ghost use Rattle.wave_machine.specs.Prepared.{Shown, shown_of};
     ghost use Rattle.wave_effects.specs.Machines.{IsStood};
-    ghost use Rattle.wave_machine.specs.inner.Index.{IsListed, RoomFor};
+    ghost use Rattle.wave_machine.specs.inner.Index.{IsListed};
+    ghost use Rattle.wave_machine.specs.inner.Updating.{RoomFor};
     ghost use Rattle.wave_effects.specs.Made.{IsPrepared};
 
     ghost Value = { Shown };
