@@ -305,11 +305,13 @@ pub fn machine_stands(machine: &Machine)
     let _ = &machine.listed.engine;
 }
 
-// Nothing is made any more.
+// Nothing is made any more. Where nothing was it writes nothing: the whole is large.
 fn forget(prepared: &mut Option<(Label, Prepared)>)
     ensures { prepared.new ≡ None }
 {
-    *prepared = None;
+    if prepared.is_some() {
+        *prepared = None;
+    }
 }
 
 // This is made for a label.
