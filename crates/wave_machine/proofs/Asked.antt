@@ -12,11 +12,13 @@ use Rattle.wave_effects.specs.declared.engine.Engine.{Engine}
 use Rattle.wave_effects.specs.Machines.{Kept, Keeps, IsStood}
 use Rattle.wave_effects.specs.Apart.{AsksTheSame, Moves}
 use Rattle.wave_machine.specs.inner.Asking.{in_order, label_at}
-use Rattle.wave_machine.specs.inner.Index.{IsIndex, asked_at, by_part, has_at, head_in, next_at, HasRoom, IsListed, SameList, weight_of}
+use Rattle.wave_machine.specs.inner.Index.{IsIndex, asked_at, by_part, head_in, HasRoom, IsListed, weight_of}
+use Rattle.wave_machine.specs.inner.Updating.{has_at, next_at, SameList}
 use Rattle.wave_machine.specs.declared.listed.Listed.{Listed}
 use Rattle.wave_effects.specs.Keeping.{kept_of}
 use Rattle.wave_machine.specs.inner.Done.{AreDone}
-use Rattle.wave_machine.proofs.Elsewhere.{others_ask, ways_here}
+use Rattle.wave_machine.proofs.Elsewhere.{others_ask}
+use Rattle.wave_machine.proofs.Ways.{ways_here}
 use Rattle.wave_machine.proofs.Untouched.{kept_done}
 use Rattle.wave_machine.proofs.Weighing.{weight_asks}
 use Rattle.wave_machine.proofs.Ordering.{same_numbered}

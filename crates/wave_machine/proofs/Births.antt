@@ -1,5 +1,5 @@
 -- A Queue leaves its context where it is, or the context was nowhere before it.
-use Rattle.std.proofs.Common.{◌≡◌, ◌≢◌, ◌∙◌, ◌⊎◌, inl, inr, ℕ, ◌+◌, ◌<◌, ◌≤◌, Bool, true, false, List, length, Option, Some, None, is_some, refl, sym, ap, subst, arith, true≢false}
+use Rattle.std.proofs.Common.{◌≡◌, ◌≢◌, ◌∙◌, ◌⊎◌, inl, inr, ℕ, ◌+◌, ◌<◌, ◌≤◌, Bool, true, false, length, Option, Some, None, is_some, refl, sym, ap, subst, arith, true≢false}
 use Rattle.std.specs.Prelude.{if◌then◌else◌, nat_eq, nat_lt, option_map, slice_get}
 use Rattle.std.specs.FinMap as table
 use Rattle.std.proofs.lemmas.Option.{slice_get_within}
@@ -21,7 +21,7 @@ use Rattle.event_cells.specs.Cells.{Carries, status_of}
 use Rattle.event_cells.specs.Keeps.{mail_in}
 use Rattle.code_actor.specs.CodeActors.{Fields}
 use Rattle.wave_states.specs.Actors.{Actors}
-use Rattle.wave_states.specs.Labels.{Act, Label, Admit, Queue, Grant, Visit, Start as Starting, Stop, Free, Pass, Land, Commit, path_of, ticket_of}
+use Rattle.wave_states.specs.Labels.{Act, Label, Admit, Queue, Grant, Visit, Start as Starting, Stop, Free, Pass, Land, Commit, path_of}
 use Rattle.wave_states.specs.Owners.{IsComing, IsOwner}
 use Rattle.wave_states.specs.States as theory
 use Rattle.wave_states.specs.States.{Column, Mail}
@@ -31,18 +31,16 @@ use Rattle.wave_theory.proofs.Basics.{bool_cases, clash, none_not, not_same, num
 use Rattle.wave_theory.proofs.Opened.{Queues, queues}
 use Rattle.plan_actors.specs.PlanActors as actors
 use Rattle.plan_actors.specs.PlanActors.{plan_actors}
-use Rattle.plan_actors.specs.Plans.{Plan, Fits, FitsStart}
 use Rattle.wave_effects.specs.declared.actor.Actor.{Actor}
 use Rattle.wave_effects.specs.Acts.{is_start}
 use Rattle.wave_effects.specs.Apart.{Moves}
-use Rattle.wave_effects.specs.Machines.{IsCell, IsEnabled, IsReached, IsStood, Kept, Shows, Stands, Takes, TheState, event_as}
+use Rattle.wave_effects.specs.Machines.{IsCell, IsEnabled, Kept, Shows, Stands, Takes, TheState, event_as}
 use Rattle.wave_effects.proofs.CellParts.{ThePart}
 use Rattle.wave_effects.proofs.Opening.{Left, left_by, queue_found}
 use Rattle.wave_effects.proofs.Parts.{set_here_path}
 use Rattle.wave_effects.proofs.StoreParts.{at_host as at_written_host}
-use Rattle.wave_machine.specs.inner.Index.{IsAlone, IsNowhere, has_at, is_queue}
+use Rattle.wave_machine.specs.inner.Updating.{IsNowhere, has_at, is_queue}
 use Rattle.wave_machine.specs.inner.Listable.{CanList}
-use Rattle.wave_machine.proofs.Elsewhere.{has_elsewhere}
 use Rattle.wave_machine.proofs.ListingKinds.{has_as, nothing_past, slice_none}
 use Rattle.wave_machine.proofs.Owned as owned
 
@@ -68,20 +66,14 @@ module _ (m : Kept) (start : Start) (s : TheState) (shows : Shows m s) (list : C
   sys = plan_actors m.plan.program
 
   -- a host has the context where the state's store has it
-  has_here : (p : Path) (h : ℕ) → has_at p (slice_get m.stores h) ≡ is_some ((s.columns p).store h)
+  pub has_here : (p : Path) (h : ℕ) → has_at p (slice_get m.stores h) ≡ is_some ((s.columns p).store h)
   has_here p h = by_store (slice_get m.stores h) refl
     where
       by_store : (o : Option Stores) → slice_get m.stores h ≡ o → has_at p o ≡ is_some ((s.columns p).store h)
       by_store (Some st) e = sym (has_as st p (s.columns p) h (shows.stores.each h st e p))
       by_store None e = sym (ap is_some (nothing_past m start s shows list p h (slice_none m.stores h e)).0)
 
-  -- no two hosts have a context, and nobody is ready at one that is nowhere
-  pub not_else : (p : Path) (h : ℕ) → has_at p (slice_get m.stores h) ≡ true → (h' : ℕ) → h' ≢ h → has_at p (slice_get m.stores h') ≡ false
-  not_else p h here h' apart = elim (bool_cases (has_at p (slice_get m.stores h'))) [
-    | inl too ↦ absurd (apart (list.owner.one p h' h (inl (sym (has_here p h') ∙ too)) (inl (sym (has_here p h) ∙ here))))
-    | inr away ↦ away
-  ]
-
+  -- nobody is ready at one that is nowhere
   pub none_ready : (p : Path) → ((h : ℕ) → has_at p (slice_get m.stores h) ≡ false) → (i : ℕ) (c : Cell Actor) → slice_get m.cells i ≡ Some c → c.status ≡ status.Ready p → ⊥
   none_ready p away i c there ready =
       let cell : IsCell m.plan.program c (s.cells (m.first + i)) = shows.cells.each i c there in
@@ -212,56 +204,3 @@ queue_born m m' l more on list takes moves = by_act l.act on.enabled
     by_act (Pass t k p g) e q = absurd (true≢false (sym q))
     by_act (Land t k p) e q = absurd (true≢false (sym q))
     by_act (Commit t) e q = absurd (true≢false (sym q))
-
--- ---- a context that comes to a host or goes from it
-
--- what is known of each state that labels lead to
-abbrev pub Lists : Type 0
-Lists = (plan : Plan) (start : Start) (labels : List Label) (s : TheState) → Fits plan → FitsStart plan start → IsReached plan start labels s → CanList plan start s
-
-module _ (lists : Lists) (m m' : Kept) (l : Label) (more : ℕ) (on : IsStood m) (on' : IsStood m') (moves : Moves m m' l more) where
-  abbrev p : Path
-  p = path_of l.act
-
-  list : CanList m.plan on.start on.state
-  list = lists m.plan on.start on.stands.labels on.state on.stands.fits on.stands.begins on.stands.reached
-
-  list' : CanList m'.plan on'.start on'.state
-  list' = lists m'.plan on'.start on'.stands.labels on'.state on'.stands.fits on'.stands.begins on'.stands.reached
-
-  same_at : (h : ℕ) → h ≢ l.host → has_at p (slice_get m'.stores h) ≡ has_at p (slice_get m.stores h)
-  same_at h d = has_elsewhere m m' l more moves h p (λ both. d both.0)
-
-  away_all : (n : Kept) → has_at p (slice_get n.stores l.host) ≡ false → ((h : ℕ) → h ≢ l.host → has_at p (slice_get n.stores h) ≡ false) → (h : ℕ) → has_at p (slice_get n.stores h) ≡ false
-  away_all n here rest h = elim (number_cases h l.host) [ inl e ↦ ap (λ k. has_at p (slice_get n.stores k)) e ∙ here | inr d ↦ rest h (not_same h l.host d) ]
-
-  still_ready : (i : ℕ) (c : Cell Actor) → m.first + i ≢ ticket_of l.act → slice_get m.cells i ≡ Some c → c.status ≡ status.Ready p → (c' : Cell Actor) × (slice_get m'.cells i ≡ Some c') × (c'.status ≡ status.Ready p)
-  still_ready i c other there ready =
-      let within = slice_get_within m.cells i c there in
-      let many = moves.as_many in
-      let x = owned.slice_some m'.cells i (omega (arith, within, many)) in
-      (x.0, x.1, (moves.others.cells i c x.0 other there x.1).status ∙ ready)
-
-  pub alone_here : has_at p (slice_get m'.stores l.host) ≢ has_at p (slice_get m.stores l.host) → IsAlone m l
-  alone_here apart = elim (bool_cases (has_at p (slice_get m.stores l.host))) [ inl here ↦ leaves here (away' here) | inr away ↦ comes away (here' away) ]
-    where
-      away' : has_at p (slice_get m.stores l.host) ≡ true → has_at p (slice_get m'.stores l.host) ≡ false
-      away' here = elim (bool_cases (has_at p (slice_get m'.stores l.host))) [ inl too ↦ absurd (apart (too ∙ sym here)) | inr gone ↦ gone ]
-
-      here' : has_at p (slice_get m.stores l.host) ≡ false → has_at p (slice_get m'.stores l.host) ≡ true
-      here' away = elim (bool_cases (has_at p (slice_get m'.stores l.host))) [ inl too ↦ too | inr gone ↦ absurd (apart (gone ∙ sym away)) ]
-
-      leaves : has_at p (slice_get m.stores l.host) ≡ true → has_at p (slice_get m'.stores l.host) ≡ false → IsAlone m l
-      leaves here gone =
-          let rest = not_else m on.start on.state on.stands.shows list p l.host here in
-          record {
-            elsewhere = rest;
-            none_ready = λ i c other there ready.
-                let x = still_ready i c other there ready in
-                none_ready m' on'.start on'.state on'.stands.shows list' p (away_all m' gone (λ h d. same_at h d ∙ rest h d)) i x.0 x.1 x.2;
-          }
-
-      comes : has_at p (slice_get m.stores l.host) ≡ false → has_at p (slice_get m'.stores l.host) ≡ true → IsAlone m l
-      comes away here =
-          let rest : (h : ℕ) → h ≢ l.host → has_at p (slice_get m.stores h) ≡ false = λ h d. sym (same_at h d) ∙ not_else m' on'.start on'.state on'.stands.shows list' p l.host here h d in
-          record { elsewhere = rest; none_ready = λ i c other there ready. none_ready m on.start on.state on.stands.shows list p (away_all m away rest) i c there ready }

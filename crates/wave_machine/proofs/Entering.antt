@@ -63,19 +63,19 @@ among_none h p mails j a = let low = a.low in absurd (omega (arith, low))
 pub among_less : (h : ℕ) (p : Path) (mails : List (ℕ × Envelope)) (n k j : ℕ) → n ≤ k → IsAmong h p mails n j → IsAmong h p mails k j
 among_less h p mails n k j l a = let low = a.low in record { at = a.at; low = omega (arith, low, l); mail = a.mail; there = a.there; number = a.number; enter = a.enter }
 
--- a mail of a number stands among them
-record Stands (mails : List (ℕ × Envelope)) (j : ℕ) (e : Envelope) : Type 0 where
+-- a number finds a mail among them
+record FindsMail (mails : List (ℕ × Envelope)) (j : ℕ) (e : Envelope) : Type 0 where
   at : ℕ
   mail : ℕ × Envelope
   there : slice_get mails at ≡ Some mail
   number : mail.0 ≡ j
   is : mail.1 ≡ e
 
-stands_there : (mails : List (ℕ × Envelope)) (j : ℕ) (e : Envelope) → mail_in mails j ≡ Some e → Stands mails j e
-stands_there [] j e z = absurd (none_not z)
-stands_there (x ∷ xs) j e z = elim (number_cases j x.0) [
+finds_mail : (mails : List (ℕ × Envelope)) (j : ℕ) (e : Envelope) → mail_in mails j ≡ Some e → FindsMail mails j e
+finds_mail [] j e z = absurd (none_not z)
+finds_mail (x ∷ xs) j e z = elim (number_cases j x.0) [
   | inl same ↦ record { at = 0; mail = x; there = refl; number = sym same; is = some_same x.1 e (sym (find_first x xs) ∙ ap (mail_in (x ∷ xs)) (sym same) ∙ z) }
-  | inr d ↦ (let r = stands_there xs j e (sym (find_apart x xs j (not_same j x.0 d)) ∙ z) in record { at = suc r.at; mail = r.mail; there = r.there; number = r.number; is = r.is })
+  | inr d ↦ (let r = finds_mail xs j e (sym (find_apart x xs j (not_same j x.0 d)) ∙ z) in record { at = suc r.at; mail = r.mail; there = r.there; number = r.number; is = r.is })
 ]
 
 module _ (m : Kept) (h : ℕ) (p : Path) where
@@ -110,7 +110,7 @@ module _ (m : Kept) (h : ℕ) (p : Path) where
       by_mail : (o : Option Envelope) → mail_in mails j ≡ o → is_enter h p o ≡ true → IsAmong h p mails (length mails) j
       by_mail None z y = absurd (true≢false (sym y))
       by_mail (Some x) z y =
-          let s = stands_there mails j x z in
+          let s = finds_mail mails j x z in
           record { at = s.at; low = slice_get_within mails s.at s.mail s.there; mail = s.mail; there = s.there; number = s.number; enter = ap (λ w. is_enter h p (Some w)) s.is ∙ y }
 
       among : cell_at m u ≡ Some c → IsAmong h p mails (length mails) j

@@ -31,7 +31,8 @@ use Rattle.wave_effects.specs.Running.{CanStop, IsStopping, Stops, stop_of}
 use Rattle.wave_effects.specs.Apart.{new_cells}
 use Rattle.wave_effects.specs.Sized.{IsNumbered}
 use Rattle.wave_machine.specs.inner.Asking.{enter_act, label_at, mail_act, mail_labels, route_at}
-use Rattle.wave_machine.specs.inner.Index.{KeepsMails, act_number, is_enter, is_enter_in, sent_at, sent_by}
+use Rattle.wave_machine.specs.inner.Index.{act_number, is_enter, is_enter_letter, sent_at, sent_by}
+use Rattle.wave_machine.specs.inner.Updating.{KeepsMails}
 use Rattle.wave_effects.proofs.Ending.{none_carries}
 use Rattle.wave_machine.proofs.Grows.{admit_grows}
 use Rattle.wave_machine.proofs.OwnMails.{KeepsOwn, own_by}
@@ -82,7 +83,7 @@ enters_in theory.Back = false
 enters_in Release = false
 enters_in (Transfer e) = false
 
-enters_said : (x : Letter) (l : theory.Letter Fields) → Says x l → is_enter_in x ≡ enters_in l
+enters_said : (x : Letter) (l : theory.Letter Fields) → Says x l → is_enter_letter x ≡ enters_in l
 enters_said (letter.Enter number followed peek) l e = ap enters_in (sym e)
 enters_said letter.Visit l e = ap enters_in (sym e)
 enters_said letter.Back l e = ap enters_in (sym e)
@@ -103,7 +104,7 @@ same_enter h p (Some e) (Some e') None c c' = absurd c
 same_enter h p (Some e) (Some e') (Some x) c c' =
     let host : e'.to.0 ≡ e.to.0 = sym c'.host ∙ c.host in
     let path : e'.path ≡ e.path = sym c'.path ∙ c.path in
-    let letters : is_enter_in e'.letter ≡ is_enter_in e.letter = enters_said e'.letter x.letter c'.letter ∙ sym (enters_said e.letter x.letter c.letter) in
+    let letters : is_enter_letter e'.letter ≡ is_enter_letter e.letter = enters_said e'.letter x.letter c'.letter ∙ sym (enters_said e.letter x.letter c.letter) in
     λ i. (host i == h) && (path_eq (path i) p && letters i)
 
 -- ---- over a label that is taken

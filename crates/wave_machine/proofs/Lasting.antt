@@ -26,7 +26,8 @@ use Rattle.wave_machine.specs.declared.listed.Listed.{Listed}
 use Rattle.wave_effects.specs.declared.prepared.Prepared.{Prepared}
 use Rattle.wave_effects.specs.Heading.{AreCreated, IsMade, IsNext, RoomToAdmit, RoomToCommit}
 use Rattle.wave_effects.specs.Keeping.{RoomToGrant, RoomToLand, kept_of}
-use Rattle.wave_machine.specs.inner.Index.{HasRoom, RoomFor}
+use Rattle.wave_machine.specs.inner.Index.{HasRoom}
+use Rattle.wave_machine.specs.inner.Updating.{RoomFor}
 use Rattle.wave_effects.specs.Made.{IsPart, IsPrepared}
 use Rattle.wave_effects.specs.Rooms.{PartToQueue, RoomInLine}
 use Rattle.wave_effects.specs.Running.{IsCopy, copy_of}

@@ -13,6 +13,7 @@ pub mod Relisted
 pub mod Owned
 pub mod Renewed
 pub mod Heads
+pub mod Ways
 pub mod Elsewhere
 pub mod Weighing
 pub mod Updated
@@ -29,4 +30,5 @@ pub mod Halves
 pub mod Offered
 pub mod Readied
 pub mod Births
+pub mod Comings
 pub mod Entering

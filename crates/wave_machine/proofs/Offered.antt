@@ -25,7 +25,8 @@ use Rattle.plan_actors.specs.Plans.{begin_in}
 use Rattle.wave_effects.specs.declared.kept.Out.{Out}
 use Rattle.wave_machine.specs.declared.ready.Ready.{Ready}
 use Rattle.wave_effects.specs.Machines.{IsOut, Kept, Shows, TheState}
-use Rattle.wave_machine.specs.inner.Index.{IsIndex, by_none, has_at}
+use Rattle.wave_machine.specs.inner.Index.{IsIndex, by_none}
+use Rattle.wave_machine.specs.inner.Updating.{has_at}
 use Rattle.wave_machine.specs.inner.Listable.{CanList}
 use Rattle.wave_machine.specs.inner.Takeable.{CanTake, is_stop_of}
 use Rattle.wave_machine.proofs.Bridged.{in_mapped, taken_is, with_worker}

@@ -5,7 +5,8 @@ use Rattle.wave_machine.specs.declared.listed.Listed.{Listed}
 use Rattle.wave_machine.specs.declared.listed.Seen.{Seen}
 use Rattle.wave_effects.specs.Keeping.{kept_of}
 use Rattle.wave_effects.specs.Machines.{Kept}
-use Rattle.wave_machine.specs.inner.Index.{Updating, share_at, weight_of}
+use Rattle.wave_machine.specs.inner.Index.{share_at, weight_of}
+use Rattle.wave_machine.specs.inner.Updating.{Updating}
 use Rattle.wave_machine.proofs.Weighing.{share_grows, share_within, weight_moves}
 
 pub record Weighed (x : Listed) (seen : Seen) (share more : ℕ) : Type 0 where

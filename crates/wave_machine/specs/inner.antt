@@ -3,4 +3,5 @@ pub mod Listable
 pub mod Done
 pub mod Others
 pub mod Index
+pub mod Updating
 pub mod Takeable

@@ -6,7 +6,8 @@ ghost use Rattle.wave_states.specs.Canonical.{taken_as};
 ghost use Rattle.wave_effects.specs.Machines.{Stands, TheState};
 ghost use Rattle.wave_machine.specs.Picks.{IsOneOf};
 ghost use Rattle.wave_machine.specs.Readies.{choice_of, enabled_by, ready_in};
-ghost use Rattle.wave_machine.specs.inner.Index.{IsListed, IsPickOf};
+ghost use Rattle.wave_machine.specs.inner.Index.{IsListed};
+ghost use Rattle.wave_machine.specs.inner.Updating.{IsPickOf};
 
 use crate::index::place;
 use crate::listable::states_list;

@@ -9,7 +9,8 @@ ghost use Rattle.wave_states.specs.Labels.{ticket_of};
 ghost use Rattle.wave_theory.specs.Listed.{kind_rank};
 ghost use Rattle.wave_effects.specs.Apart.{on_head};
 ghost use Rattle.wave_machine.specs.inner.Asking.{in_order, labels_in};
-ghost use Rattle.wave_machine.specs.inner.Index.{Cuts, CutsKind, Goes, IsInner, Parted, by_none, is_before, is_of, is_queue, kinds_at, act_number, under};
+ghost use Rattle.wave_machine.specs.inner.Index.{Cuts, CutsKind, Goes, IsInner, Parted, by_none, is_before, is_of, kinds_at, act_number, under};
+ghost use Rattle.wave_machine.specs.inner.Updating.{is_queue};
 
 use crate::order::{COMMIT, FREE, GRANT, LAND, PASS, QUEUE, START, VISIT, kind_rank};
 use crate::ready::Ready;

@@ -15,7 +15,8 @@ ghost use Rattle.wave_effects.specs.Machines.{IsEnabled, Keeps, Kept, Stands, Ta
 ghost use Rattle.wave_effects.specs.Plans.{plan_of};
 ghost use Rattle.wave_effects.specs.Acts.{is_start, is_step};
 ghost use Rattle.wave_effects.specs.Running.{CanStop, IsStopping, Leases, Stops, stop_of};
-ghost use Rattle.wave_machine.specs.inner.Index.{HasRoom, IsListed, SameList, Sees, Updating};
+ghost use Rattle.wave_machine.specs.inner.Index.{HasRoom, IsListed};
+ghost use Rattle.wave_machine.specs.inner.Updating.{SameList, Sees, Updating};
 ghost use Rattle.wave_effects.specs.Made.{IsPart};
 ghost use Rattle.wave_effects.specs.Spare.{IsAsLong, SameButRooms};
 

@@ -4,7 +4,8 @@ ghost use Rattle.std.specs.Prelude.{◌≡◌, ◌+◌, Some, option_copied, opt
 ghost use Rattle.wave_labels.specs.Labels.{act_of};
 ghost use Rattle.wave_states.specs.Labels.{path_of};
 ghost use Rattle.wave_effects.specs.Keeping.{kept_of};
-ghost use Rattle.wave_machine.specs.inner.Index.{asks_at, asks_in, cell_at, has_at, held_at, next_at, next_of, sent_at, share_at, share_of};
+ghost use Rattle.wave_machine.specs.inner.Index.{asks_at, asks_in, cell_at, held_at, sent_at, share_at, share_of};
+ghost use Rattle.wave_machine.specs.inner.Updating.{has_at, next_at, next_of};
 
 use crate::asking::store_at;
 use context_queue::{Entry, entries_stand};

@@ -51,7 +51,8 @@ impl<'p> Model for Machine<'p> {
     ghost use Rattle.wave_effects.specs.Keeping.{kept_of};
     ghost use Rattle.wave_machine.specs.Prepared.{Shown, shown_of};
     ghost use Rattle.wave_effects.specs.Machines.{IsStood};
-    ghost use Rattle.wave_machine.specs.inner.Index.{IsListed, RoomFor};
+    ghost use Rattle.wave_machine.specs.inner.Index.{IsListed};
+    ghost use Rattle.wave_machine.specs.inner.Updating.{RoomFor};
     ghost use Rattle.wave_effects.specs.Made.{IsPrepared};
 
     ghost Value = { Shown };
@@ -304,11 +305,13 @@ pub fn machine_stands(machine: &Machine)
     let _ = &machine.listed.engine;
 }
 
-// Nothing is made any more.
+// Nothing is made any more. Where nothing was it writes nothing: the whole is large.
 fn forget(prepared: &mut Option<(Label, Prepared)>)
     ensures { prepared.new ≡ None }
 {
-    *prepared = None;
+    if prepared.is_some() {
+        *prepared = None;
+    }
 }
 
 // This is made for a label.

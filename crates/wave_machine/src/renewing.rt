@@ -15,7 +15,8 @@ ghost use Rattle.wave_machine.specs.inner.Asking.{admit_labels, in_order, label_
 ghost use Rattle.wave_effects.specs.Sized.{IsListable};
 ghost use Rattle.wave_machine.specs.inner.Done.{AreDone};
 ghost use Rattle.wave_machine.specs.inner.Others.{but};
-ghost use Rattle.wave_machine.specs.inner.Index.{IsAmong, IsEntering, IsHead, IsInner, Lists, ListsNew, Relists, RelistsBoth, RelistsNear, RelistsNext, RelistsOwn, RelistsStatus, Renews, Taken, asked_as, asked_at, asks_at, by_none, by_part, head_in, is_admit, is_enter, is_enter_in, is_queue, mail_at, next_at, act_number, weight_of};
+ghost use Rattle.wave_machine.specs.inner.Index.{IsAmong, IsEntering, IsHead, IsInner, Lists, ListsNew, Relists, RelistsBoth, RelistsNear, RelistsNext, RelistsOwn, RelistsStatus, Renews, asked_as, asked_at, asks_at, by_none, by_part, head_in, is_admit, is_enter, is_enter_letter, mail_at, act_number, weight_of};
+ghost use Rattle.wave_machine.specs.inner.Updating.{Taken, is_queue, next_at};
 ghost use Rattle.wave_effects.specs.Keeping.{kept_of};
 
 use crate::asking::{admit_label, commit_label, mail_label, status_label};
@@ -283,7 +284,7 @@ fn is_enter(envelope: &Envelope, host: Host, path: &Path) -> bool
 }
 
 fn is_entering(letter: &Letter) -> bool
-    ensures { result ≡ is_enter_in letter.now }
+    ensures { result ≡ is_enter_letter letter.now }
 {
     matches!(letter, Letter::Enter { .. })
 }

@@ -10,7 +10,7 @@ use Rattle.plan_actors.specs.PlanActors.{plan_kind}
 use Rattle.plan_actors.specs.Plans.{Plan, begin_in}
 use Rattle.wave_effects.specs.declared.kept.Out.{Out}
 use Rattle.wave_effects.specs.Machines.{TheState}
-use Rattle.wave_machine.specs.inner.Index.{has_at}
+use Rattle.wave_machine.specs.inner.Updating.{has_at}
 
 -- a worker's list has exactly what it can take, and each label is taken by an owner
 pub record CanTake (plan : Plan) (start : Start) (s : TheState) : Type 0 where

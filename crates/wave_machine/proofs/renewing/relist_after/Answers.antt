@@ -3,7 +3,7 @@ use Rattle.std.specs.Prelude.{slice_get}
 use Rattle.wave_labels.specs.Labels.{label_of}
 use Rattle.wave_states.specs.Labels.{path_of}
 use Rattle.wave_effects.specs.Keeping.{kept_of}
-use Rattle.wave_machine.specs.inner.Index.{has_at}
+use Rattle.wave_machine.specs.inner.Updating.{has_at}
 use Rattle.wave_machine.proofs.Updated.{near_is, ways_by}
 use Rattle.wave_machine.proofs.renewing.relist_after.Goals as goal
 

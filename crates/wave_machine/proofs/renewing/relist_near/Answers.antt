@@ -4,7 +4,8 @@ use Rattle.wave_base.specs.declared.numbers.Ticket.{Ticket}
 use Rattle.wave_labels.specs.Labels.{act_of}
 use Rattle.wave_states.specs.Labels.{path_of}
 use Rattle.wave_effects.specs.Keeping.{kept_of}
-use Rattle.wave_machine.specs.inner.Index.{RelistsBoth, RelistsNear, next_at, act_number}
+use Rattle.wave_machine.specs.inner.Index.{RelistsBoth, RelistsNear, act_number}
+use Rattle.wave_machine.specs.inner.Updating.{next_at}
 use Rattle.wave_machine.specs.inner.Others.{but}
 use Rattle.wave_machine.proofs.Renewed.{near}
 use Rattle.wave_machine.proofs.renewing.relist_near.Goals as goal

@@ -4,8 +4,9 @@ use Rattle.wave_states.specs.Labels.{path_of}
 use Rattle.wave_effects.specs.declared.engine.Engine.{Engine}
 use Rattle.wave_effects.specs.Keeping.{kept_of}
 use Rattle.wave_effects.specs.Machines.{Takes}
-use Rattle.wave_machine.specs.inner.Index.{Sees}
-use Rattle.wave_machine.proofs.Births.{alone_here, queue_born}
+use Rattle.wave_machine.specs.inner.Updating.{Sees}
+use Rattle.wave_machine.proofs.Births.{queue_born}
+use Rattle.wave_machine.proofs.Comings.{alone_here}
 use Rattle.wave_machine.proofs.Grows.{admit_grows}
 use Rattle.wave_machine.proofs.KeptMails.{mails_taken, numbered_stood}
 use Rattle.wave_effects.proofs.Labelled.{stood_after}

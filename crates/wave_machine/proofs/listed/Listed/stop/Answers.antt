@@ -12,9 +12,10 @@ use Rattle.wave_effects.specs.Spare.{IsAsLong, SameButRooms}
 use Rattle.wave_effects.proofs.Halting.{cell_at}
 use Rattle.wave_effects.proofs.Labelled.{stood_stopped}
 use Rattle.wave_effects.proofs.Unasked.{same_asks}
-use Rattle.wave_machine.specs.inner.Index.{HasRoom, KeepsMails, Sees, held_at, held_by, is_queue}
+use Rattle.wave_machine.specs.inner.Index.{HasRoom, held_at, held_by}
+use Rattle.wave_machine.specs.inner.Updating.{KeepsMails, Sees, is_queue}
 use Rattle.wave_machine.proofs.Asked.{listed_same, listed_still, room_same}
-use Rattle.wave_machine.proofs.Births.{alone_here}
+use Rattle.wave_machine.proofs.Comings.{alone_here}
 use Rattle.wave_machine.proofs.KeptMails.{mails_stopped, numbered_stood}
 use Rattle.wave_machine.proofs.Owned as owned
 use Rattle.wave_machine.proofs.Roomier.{same_self}

@@ -1,6 +1,6 @@
 use Rattle.std.proofs.Common.{sym, subst}
 use Rattle.wave_effects.specs.Keeping.{kept_of}
-use Rattle.wave_machine.specs.inner.Index.{RoomFor}
+use Rattle.wave_machine.specs.inner.Updating.{RoomFor}
 use Rattle.wave_effects.specs.Made.{IsPrepared}
 use Rattle.wave_effects.proofs.Labelled.{stood_kept}
 use Rattle.wave_machine.proofs.machine.Machine.reserve.Goals as goal

@@ -3,7 +3,7 @@ use Rattle.wave_labels.specs.Labels.{label_of}
 use Rattle.wave_effects.specs.Keeping.{kept_of}
 use Rattle.wave_effects.specs.Machines.{IsEnabled, Takes}
 use Rattle.wave_machine.specs.Prepared.{Shown}
-use Rattle.wave_machine.specs.inner.Index.{RoomFor}
+use Rattle.wave_machine.specs.inner.Updating.{RoomFor}
 use Rattle.wave_effects.specs.Made.{IsPrepared}
 use Rattle.wave_effects.proofs.Labelled.{stood_after}
 use Rattle.wave_machine.proofs.machine.Machine.step.Goals as goal

@@ -2,7 +2,7 @@ use Rattle.std.proofs.Common.{sym, subst, ap}
 use Rattle.wave_effects.specs.Keeping.{kept_of}
 use Rattle.wave_effects.specs.Machines.{Keeps}
 use Rattle.wave_machine.specs.Prepared.{Shown}
-use Rattle.wave_machine.specs.inner.Index.{RoomFor}
+use Rattle.wave_machine.specs.inner.Updating.{RoomFor}
 use Rattle.wave_effects.specs.Made.{IsPrepared}
 use Rattle.wave_effects.specs.Running.{CanStop, IsStopping, Stops}
 use Rattle.wave_effects.proofs.Labelled.{stood_kept, stood_stopped}

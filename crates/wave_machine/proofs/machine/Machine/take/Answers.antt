@@ -6,7 +6,7 @@ use Rattle.wave_effects.specs.Made.{IsPrepared}
 use Rattle.wave_effects.specs.Plans.{plan_of}
 use Rattle.wave_effects.proofs.Labelled.{stood_after, stood_kept}
 use Rattle.wave_machine.specs.Prepared.{Shown}
-use Rattle.wave_machine.specs.inner.Index.{RoomFor}
+use Rattle.wave_machine.specs.inner.Updating.{RoomFor}
 use Rattle.wave_machine.proofs.Readied.{enabled_still, takes_still}
 use Rattle.wave_machine.proofs.machine.Machine.take.Goals as goal
 

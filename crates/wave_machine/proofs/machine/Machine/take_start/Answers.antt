@@ -7,7 +7,7 @@ use Rattle.wave_effects.specs.Plans.{plan_of}
 use Rattle.wave_effects.specs.Running.{Leases}
 use Rattle.wave_effects.proofs.Labelled.{stood_after, stood_kept}
 use Rattle.wave_machine.specs.Prepared.{Shown}
-use Rattle.wave_machine.specs.inner.Index.{RoomFor}
+use Rattle.wave_machine.specs.inner.Updating.{RoomFor}
 use Rattle.wave_machine.proofs.Readied.{enabled_still, leases_still, takes_still}
 use Rattle.wave_machine.proofs.machine.Machine.take_start.Goals as goal
 
