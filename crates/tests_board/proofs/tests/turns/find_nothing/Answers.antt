@@ -1,7 +1,8 @@
-use Rattle.std.proofs.Common.{◌<◌, ◌≡◌, inl, inr, nat_eq, false, subst, arith}
+use Rattle.std.proofs.Common.{◌<◌, ◌≡◌, inl, inr, nat_eq, false, ap, subst, arith}
 use Rattle.wave_theory.proofs.Basics.{number_cases}
 use Rattle.plan_actors.specs.Plans.{Fits}
 use Rattle.plan_actors.proofs.Owing.{setting_of}
+use Rattle.wave_effects.specs.declared.lease.Lease.{Lease}
 use Rattle.wave_effects.specs.Plans.{plan_of}
 use Rattle.wave_board.specs.Taking.{Took}
 use Rattle.tests_board.proofs.Turning.{other_may_take, out_same, standing}
@@ -13,7 +14,8 @@ take-requires-clause-stands g c = standing c.args.plan.now c.args.board.now c.re
 pub take-requires-clause-may : goal.take-requires-clause-may
 take-requires-clause-may g c =
     let below : c.args.worker.0 < c.args.plan.now.workers = omega arith in
-    let other : nat_eq c.args.parcel.now.worker.0 c.args.worker.0 ≡ false = elim (number_cases c.args.parcel.now.worker.0 c.args.worker.0) [ inl is ↦ absurd (omega arith) | inr apart ↦ apart ] in
+    let same : c.lease.result.now.worker.0 ≡ c.args.parcel.now.worker.0 = ap (λ (l : Lease). l.worker.0) c.lease.ensures in
+    let other : nat_eq c.args.parcel.now.worker.0 c.args.worker.0 ≡ false = elim (number_cases c.args.parcel.now.worker.0 c.args.worker.0) [ inl is ↦ absurd (omega (arith, same, is)) | inr apart ↦ apart ] in
     other_may_take c.args.plan.now c.args.board.now c.args.parcel.now c.requires c.args.worker other below
 
 pub returns : goal.returns
