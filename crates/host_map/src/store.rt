@@ -1,6 +1,6 @@
 //! The contexts at a host, and where those went that left it.
 
-ghost use Rattle.std.specs.Prelude.{◌≡◌, ◌≤◌, ◌+◌, OnOk, IfOk, Some, get_or, is_some, option_copied, option_map, position, length, slice_get, IfSome, ◌<◌};
+ghost use Rattle.std.specs.Prelude.{◌≡◌, ◌≤◌, ◌+◌, OnOk, IfOk, Some, get_or, is_some, option_copied, option_map, position, length, slice_get, true, IfSome, IsTrue, ◌<◌};
 ghost use Rattle.std.specs.List.{list_any, IsDistinct};
 ghost use Rattle.std.specs.FinMap as map;
 ghost use Rattle.host_map.specs.Stores.{find_in, has, is_counted};
@@ -96,7 +96,7 @@ impl HostStore {
     pub fn has(&self, path: &Path) -> bool
         ensures { result ≡ has path.now self.now }
     {
-        place_in(&self.store, self.near.at(path), path).is_some()
+        stands_at(&self.store, self.near.at(path), path) || search(&self.store, path).is_some()
     }
 
     /// The entry of a context.
@@ -212,10 +212,34 @@ pub(crate) fn place_in(table: &IndexMap<Path, Entry>, last: usize, path: &Path) 
 {
     // a number, which counts each path once
     let _ = table.len();
-    match table.get_index(last) {
-        Some((found, _)) if *found == *path => Some(last),
-        _ => table.get_index_of(path),
+    if stands_at(table, last, path) {
+        Some(last)
+    } else {
+        search(table, path)
     }
+}
+
+// Whether a path stands there.
+fn stands_at(table: &IndexMap<Path, Entry>, place: usize, path: &Path) -> bool
+    ensures key { IsTrue result → get_or (keys table.now) place path.now ≡ path.now }
+    ensures found { IsTrue result → is_some (get_by (path_eq path.now) table.now) ≡ true }
+    ensures within { IsTrue result → place < index_map_len table.now }
+    ensures value { IsTrue result → slice_get (values table.now) place ≡ get_by (path_eq path.now) table.now }
+{
+    match table.get_index(place) {
+        Some((found, _)) => *found == *path,
+        None => false,
+    }
+}
+
+// The place of a path, searched for by its hash.
+fn search(table: &IndexMap<Path, Entry>, path: &Path) -> Option<usize>
+    ensures key { IfSome result (λ i. get_or (keys table.now) i path.now ≡ path.now) }
+    ensures found { is_some result ≡ is_some (get_by (path_eq path.now) table.now) }
+    ensures within { IfSome result (λ i. i < index_map_len table.now) }
+    ensures value { IfSome result (λ i. slice_get (values table.now) i ≡ get_by (path_eq path.now) table.now) }
+{
+    table.get_index_of(path)
 }
 
 // Whether an entry says that a ticket was let in, or that its context moved.
