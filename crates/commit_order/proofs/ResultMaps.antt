@@ -1,5 +1,5 @@
 -- The finite map of results through the calls of the table that keeps them.
-use Rattle.std.proofs.Common.{◌≡◌, ◌<◌, ◌+◌, ℕ, List, [], ◌∷◌, Option, Some, None, Result, Ok, Err, IsOk, OnOk, Bool, true, false, cond, refl, sym, ap, ◌∙◌, arith}
+use Rattle.std.proofs.Common.{◌≡◌, ◌<◌, ◌+◌, ℕ, List, [], ◌∷◌, Option, Some, None, Result, Ok, Err, IsOk, OnOk, Bool, true, false, cond, length, refl, sym, ap, ◌∙◌, arith}
 use Rattle.std.specs.Prelude.{nat_eq, nat_lt}
 use Rattle.std.specs.Ordering.{nat_cmp, eq_by_cmp}
 use Rattle.std.specs.Cmp.{unsigned_ties}
@@ -21,6 +21,11 @@ module _ {X : Type 0} where
 
   pub get_is_lookup : (q : ℕ) (es : List (ℕ × X)) → get (from_entries {R = nat_cmp} es) q ≡ lookup (nat_eq q) es
   get_is_lookup q es = get-from_entries nat_cmp_total es q ∙ find_is_lookup q es
+
+  -- in an empty table nothing is found
+  pub none_in : (q : ℕ) (es : List (ℕ × X)) → length es ≡ 0 → None ≡ lookup (nat_eq q) es
+  none_in q [] none = refl
+  none_in q (e ∷ es) none = cc
 
   after : (k q : ℕ) (w : Option X) (es fs : List (ℕ × X)) → lookup (nat_eq q) fs ≡ cond (nat_eq k q) w (lookup (nat_eq q) es)
       → get (from_entries {R = nat_cmp} fs) q ≡ cond (eq_by_cmp nat_cmp q k) w (get (from_entries {R = nat_cmp} es) q)

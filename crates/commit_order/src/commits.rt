@@ -82,6 +82,9 @@ impl Commits {
     pub fn ready(&self) -> Option<&EventResult>
         ensures { option_copied result ≡ ready_result self.now }
     {
+        if self.results.is_empty() {
+            return None;
+        }
         let ticket = u64::from(self.committed) + 1;
         self.results.get(&ticket)
     }
