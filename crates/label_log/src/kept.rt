@@ -5,7 +5,7 @@ ghost use Rattle.label_log.specs.Logs.{path_of};
 ghost use Rattle.label_log.specs.inner.Keeping.{HasRoom, IsKept, IsNumber, kept_labels, ready_in};
 
 use crate::entry::Entry;
-use crate::numbers::{path_at, path_number};
+use crate::numbers::{has_number, path_at, path_number};
 use indexmap::IndexSet;
 use std::alloc::Global;
 use wave_base::{Guesses, OutOfMemory, Path};
@@ -20,19 +20,21 @@ pub(crate) struct Kept {
     pub entries: Vec<Entry>,
     /// Those that are kept with their paths.
     pub whole: Vec<(Entry, Path)>,
+    /// Where a path is put that is kept with its label.
+    pub alloc: Global,
     /// The numbers that paths likely have.
     pub near: Guesses,
 }
 
 /// What there is room for.
-#[derive(Clone, Copy, Debug)]
+#[derive(Drop)]
 pub(crate) enum Room {
     /// Nothing.
     Nothing,
     /// A label whose path has this number.
     Numbered(u32),
     /// A label that is kept with its path, which is this one.
-    Whole(Path),
+    Whole(Box<Path>),
 }
 
 impl Kept {
@@ -45,6 +47,7 @@ impl Kept {
             paths: IndexSet::new(alloc),
             entries: Vec::new(alloc),
             whole: Vec::new(alloc),
+            alloc,
             near: Guesses::new(),
         }
     }
@@ -84,12 +87,12 @@ impl Kept {
             }
             None => {
                 self.whole.reserve(1)?;
-                Ok(Room::Whole(*path))
+                Ok(Room::Whole(Box::new(self.alloc, *path)?))
             }
         }
     }
 
-    // The number of a path; none where labels are kept with their paths from now on.
+    // The number of a path; none where labels are kept with their paths from now on. The number that it likely has is asked first, and costs no look-up.
     fn number_for(&mut self, path: &Path) -> Result<Option<u32>, OutOfMemory>
         requires { IsKept self.old }
         ensures kept { IsKept self.new }
@@ -99,23 +102,27 @@ impl Kept {
         if !self.whole.is_empty() {
             return Ok(None);
         }
-        let number = path_number(&mut self.paths, self.near.at(path), path)?;
+        let near = self.near.at(path);
+        if has_number(&self.paths, near, path) {
+            return Ok(u32::try_from(near).ok());
+        }
+        let number = path_number(&mut self.paths, path)?;
         self.near.note(path, number);
         Ok(u32::try_from(number).ok())
     }
 
     /// Adds a label, for which there is room.
-    pub(crate) fn put(&mut self, room: Room, label: &Label)
+    pub(crate) fn put(&mut self, room: &Room, label: &Label)
         requires kept { IsKept self.old }
-        requires room { HasRoom self.old room }
-        requires ready { ready_in self.old room ≡ Some (path_of label.now.act) }
+        requires room { HasRoom self.old room.now }
+        requires ready { ready_in self.old room.now ≡ Some (path_of label.now.act) }
         ensures kept { IsKept self.new }
         ensures labels { kept_labels self.new ≡ kept_labels self.old ++ label.now ∷ [] }
     {
         match room {
             Room::Nothing => {}
-            Room::Numbered(number) => self.entries.push_reserved(Entry::of(label, number)),
-            Room::Whole(path) => self.whole.push_reserved((Entry::of(label, 0), path)),
+            Room::Numbered(number) => self.entries.push_reserved(Entry::of(label, *number)),
+            Room::Whole(path) => self.whole.push_reserved((Entry::of(label, 0), **path)),
         }
     }
 }

@@ -9,5 +9,5 @@ mod paths;
 mod recorder;
 
 pub use log::LabelLog;
-pub use paths::path_of;
+pub use paths::path_in;
 pub use recorder::Recorder;

@@ -4,10 +4,10 @@ ghost use Rattle.std.specs.Prelude.{◌≡◌, ◌<◌, ◌++◌, ◌∷◌, ◌
 ghost use Rattle.label_log.specs.inner.Keeping.{IsKept, kept_labels};
 
 use crate::kept::Kept;
-use crate::paths::path_of;
+use crate::paths::path_in;
 use std::alloc::Global;
 use std::marker::Model;
-use wave_base::OutOfMemory;
+use wave_base::{OutOfMemory, Path};
 use wave_labels::Label;
 
 /// Labels in the order in which they were taken.
@@ -70,8 +70,9 @@ impl LabelLog {
         ensures ok { OnOk result (self.new ≡ self.old ++ label.now ∷ []) }
         ensures err { OnErr result (self.new ≡ self.old) }
     {
-        let room = self.kept.room_for(&path_of(&label.act))?;
-        self.kept.put(room, label);
+        let root = Path::root();
+        let room = self.kept.room_for(path_in(&label.act, &root))?;
+        self.kept.put(&room, label);
         Ok(())
     }
 }

@@ -6,23 +6,17 @@ ghost use Rattle.label_log.specs.inner.Entries.{Grows, path_in};
 use indexmap::IndexSet;
 use wave_base::{OutOfMemory, Path};
 
-/// The number of a path, which it gets where it has none. The path whose number is `near` is asked first; it costs no look-up.
-pub(crate) fn path_number(
-    paths: &mut IndexSet<Path>,
-    near: usize,
-    path: &Path,
-) -> Result<usize, OutOfMemory>
+/// The number of a path, which it gets where it has none.
+pub(crate) fn path_number(paths: &mut IndexSet<Path>, path: &Path) -> Result<usize, OutOfMemory>
     ensures more { Grows paths.old.keys paths.new.keys }
     ensures number { IfOk result (λ n. slice_get paths.new.keys n ≡ Some path.now) }
 {
-    if has_number(paths, near, path) {
-        return Ok(near);
-    }
     let (number, _) = paths.insert_full(*path)?;
     Ok(number)
 }
 
-fn has_number(paths: &IndexSet<Path>, number: usize, path: &Path) -> bool
+/// Whether this is the number of a path.
+pub(crate) fn has_number(paths: &IndexSet<Path>, number: usize, path: &Path) -> bool
     ensures { IsTrue result → slice_get paths.now.keys number ≡ Some path.now }
 {
     match paths.get_index(number) {

@@ -63,9 +63,8 @@ impl Recorder {
         requires { self.old.ready ≡ Some (path_of label.now.act) }
         ensures { self.new.labels ≡ self.old.labels ++ label.now ∷ [] }
     {
-        let room = self.room;
+        self.kept.put(&self.room, label);
         self.room = Room::Nothing;
-        self.kept.put(room, label);
     }
 
     /// The log.

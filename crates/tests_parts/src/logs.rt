@@ -1,6 +1,6 @@
 //! A log gives back the labels that were written into it.
 
-use label_log::{LabelLog, Recorder, path_of};
+use label_log::{LabelLog, Recorder, path_in};
 use std::test::Fail;
 use tests_services::{hall, label, mail};
 use wave_base::{Host, Path, Ticket};
@@ -46,9 +46,10 @@ fn pushed_labels_come_back(rt: HostRuntime) -> Result<(), Fail> {
 #[test]
 fn recorded_labels_come_back(rt: HostRuntime) -> Result<(), Fail> {
     let labels = labels();
+    let root = Path::root();
     let mut recorder = Recorder::new(rt.alloc());
     for label in labels.iter() {
-        recorder.reserve(&path_of(&label.act))?;
+        recorder.reserve(path_in(&label.act, &root))?;
         recorder.push_reserved(label);
     }
     assert_eq!(rt; recorder.len(), 12);

@@ -28,4 +28,4 @@ IsNumber k p n = (slice_get k.paths.keys n ≡ Some p) × (k.whole.items ≡ [])
 abbrev pub ready_in : Kept → Room → Option Path
 ready_in k Nothing = None
 ready_in k (Numbered n) = slice_get k.paths.keys n
-ready_in k (Whole p) = Some p
+ready_in k (Whole p) = Some p.value
