@@ -28,22 +28,22 @@ impl<'p> Engine<'p> {
         ensures plan { self.new.plan ≡ self.old.plan }
     {
         let host = label.host;
-        match label.act {
+        match &label.act {
             Act::Admit(_) => Ok(Prepared::Event(self.prepare_admit(alloc)?)),
             Act::Queue(mail, path) => {
-                let entry = self.prepare_queue(alloc, host, mail, &path)?;
+                let entry = self.prepare_queue(alloc, host, *mail, path)?;
                 Ok(Prepared::Entry(box_part(alloc, entry)?))
             }
             Act::Grant(ticket, path) => {
-                self.prepare_grant(host, ticket, &path)?;
+                self.prepare_grant(host, *ticket, path)?;
                 Ok(Prepared::Room)
             }
             Act::Land(mail, path) => {
-                self.prepare_land(host, mail, &path)?;
+                self.prepare_land(host, *mail, path)?;
                 Ok(Prepared::Room)
             }
             Act::Start(ticket, path) => {
-                let copy = self.prepare_start(alloc, host, ticket, path)?;
+                let copy = self.prepare_start(alloc, host, *ticket, path)?;
                 Ok(Prepared::Copy(box_part(alloc, copy)?))
             }
             Act::Commit(_) => Ok(Prepared::Created(self.prepare_commit(alloc)?)),
@@ -61,28 +61,28 @@ impl<'p> Engine<'p> {
         ensures plan { self.new.plan ≡ self.old.plan }
     {
         let host = label.host;
-        match label.act {
+        match &label.act {
             Act::Admit(_) => self.admit(part.cell()),
-            Act::Queue(mail, path) => self.queue(host, mail, path, part.entry()),
+            Act::Queue(mail, path) => self.queue(host, *mail, path, part.entry()),
             Act::Grant(ticket, path) => {
                 part.room();
-                self.grant(host, ticket, path)
+                self.grant(host, *ticket, path)
             }
             Act::Visit(mail, path) => {
                 part.room();
-                self.visit(mail, path)
+                self.visit(*mail, path)
             }
             Act::Free(mail, path) => {
                 part.room();
-                self.free(host, mail, path)
+                self.free(host, *mail, path)
             }
             Act::Pass(mail, path, to) => {
                 part.room();
-                self.pass(host, mail, path, to)
+                self.pass(host, *mail, path, *to)
             }
             Act::Land(mail, path) => {
                 part.room();
-                self.land(host, mail, path)
+                self.land(host, *mail, path)
             }
             Act::Commit(_) => self.commit(part.calls()),
             _ => unreachable!(),
@@ -101,9 +101,9 @@ impl<'p> Engine<'p> {
         ensures worker { result.worker ≡ label.now.worker }
         ensures plan { self.new.plan ≡ self.old.plan }
     {
-        match label.act {
+        match &label.act {
             Act::Start(ticket, path) => {
-                self.start(label.worker, label.host, ticket, path, part.copy())
+                self.start(label.worker, label.host, *ticket, path, part.copy())
             }
             _ => unreachable!(),
         }

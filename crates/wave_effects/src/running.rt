@@ -41,17 +41,17 @@ impl<'p> Engine<'p> {
         alloc: Global,
         host: Host,
         ticket: Ticket,
-        path: Path,
+        path: &Path,
     ) -> Result<Option<Record>, OutOfMemory>
-        requires { (w : ℕ) × IsEnabled (kept_of self.now) (record { worker = w; host = host.0; act = Start ticket.0 path }) }
-        ensures { IfOk result (λ copy. IsCopy (kept_of self.now) host.0 ticket.0 path copy) }
+        requires { (w : ℕ) × IsEnabled (kept_of self.now) (record { worker = w; host = host.0; act = Start ticket.0 path.now }) }
+        ensures { IfOk result (λ copy. IsCopy (kept_of self.now) host.0 ticket.0 path.now copy) }
     {
         states_are_known();
         let cell = &self.cells[(ticket.0 - self.first) as usize];
-        if !only_looks(cell, &path) {
+        if !only_looks(cell, path) {
             return Ok(None);
         }
-        match self.stores[host.0 as usize].entry(&path) {
+        match self.stores[host.0 as usize].entry(path) {
             Some(entry) => copied(alloc, entry),
             None => Ok(None),
         }
@@ -63,14 +63,14 @@ impl<'p> Engine<'p> {
         worker: Worker,
         host: Host,
         ticket: Ticket,
-        path: Path,
+        path: &Path,
         copy: Option<Record>,
     ) -> Lease
-        requires enabled { IsEnabled (kept_of self.old) (record { worker = worker.0; host = host.0; act = Start ticket.0 path }) }
-        requires part { IsCopy (kept_of self.old) host.0 ticket.0 path copy }
-        ensures takes { Takes (kept_of self.old) (kept_of self.new) (record { worker = worker.0; host = host.0; act = Start ticket.0 path }) }
-        ensures moves { Moves (kept_of self.old) (kept_of self.new) (record { worker = worker.0; host = host.0; act = Start ticket.0 path }) 0 }
-        ensures leases { Leases (kept_of self.old) (record { worker = worker.0; host = host.0; act = Start ticket.0 path }) result }
+        requires enabled { IsEnabled (kept_of self.old) (record { worker = worker.0; host = host.0; act = Start ticket.0 path.now }) }
+        requires part { IsCopy (kept_of self.old) host.0 ticket.0 path.now copy }
+        ensures takes { Takes (kept_of self.old) (kept_of self.new) (record { worker = worker.0; host = host.0; act = Start ticket.0 path.now }) }
+        ensures moves { Moves (kept_of self.old) (kept_of self.new) (record { worker = worker.0; host = host.0; act = Start ticket.0 path.now }) 0 }
+        ensures leases { Leases (kept_of self.old) (record { worker = worker.0; host = host.0; act = Start ticket.0 path.now }) result }
         ensures may_run { MayRun self.new.plan.now.program result.actor result.body }
         ensures worker { result.worker ≡ worker }
         ensures plan { self.new.plan ≡ self.old.plan }
@@ -78,15 +78,18 @@ impl<'p> Engine<'p> {
         states_are_known();
         segments_are_known();
         let cell = &mut self.cells[(ticket.0 - self.first) as usize];
-        let actor = cell.start(path).unwrap();
+        let actor = cell.start(*path).unwrap();
         let store = &mut self.stores[host.0 as usize];
-        let entry = store.entry_mut(&path);
+        let entry = store.entry_mut(path);
         let body = take_record(entry, copy);
-        self.hands[worker.0 as usize] = Some(Out { ticket, path });
+        self.hands[worker.0 as usize] = Some(Out {
+            ticket,
+            path: *path,
+        });
         Lease {
             worker,
             ticket,
-            path,
+            path: *path,
             actor,
             body,
         }

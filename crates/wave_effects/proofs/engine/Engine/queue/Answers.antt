@@ -17,11 +17,11 @@ use Rattle.wave_effects.proofs.StoreParts.{Writes}
 use Rattle.wave_effects.proofs.engine.Engine.queue.Goals as goal
 
 pub overflow_sub-mail : goal.overflow_sub-mail
-overflow_sub-mail c = (queue_placed c.states_are_known.ensures (kept_of c.args.self.now) c.args.mail.ticket.0 c.args.mail.number c.args.path c.requires.enabled.0 c.args.host.0 c.requires.enabled.1).low
+overflow_sub-mail c = (queue_placed c.states_are_known.ensures (kept_of c.args.self.now) c.args.mail.ticket.0 c.args.mail.number c.args.path.now c.requires.enabled.0 c.args.host.0 c.requires.enabled.1).low
 
 pub index_mut-cell-requires : goal.index_mut-cell-requires
 index_mut-cell-requires c =
-    let at = queue_placed c.states_are_known.ensures (kept_of c.args.self.now) c.args.mail.ticket.0 c.args.mail.number c.args.path c.requires.enabled.0 c.args.host.0 c.requires.enabled.1 in
+    let at = queue_placed c.states_are_known.ensures (kept_of c.args.self.now) c.args.mail.ticket.0 c.args.mail.number c.args.path.now c.requires.enabled.0 c.args.host.0 c.requires.enabled.1 in
     let within : c.args.mail.ticket.0 - c.args.self.now.first < length c.args.self.now.cells.items = omega (arith, at.low, at.within) in
     search (rules, within)
 
@@ -29,7 +29,7 @@ pub asked_in-number-requires : goal.asked_in-number-requires
 asked_in-number-requires c =
     let m = kept_of c.args.self.now in
     let t = c.args.mail.ticket.0 in
-    let at = queue_placed c.states_are_known.ensures m t c.args.mail.number c.args.path c.requires.enabled.0 c.args.host.0 c.requires.enabled.1 in
+    let at = queue_placed c.states_are_known.ensures m t c.args.mail.number c.args.path.now c.requires.enabled.0 c.args.host.0 c.requires.enabled.1 in
     let i = t - m.first in
     let place : m.first + i ≡ t = omega (arith, at.low) in
     let within : i < length m.cells = omega (arith, at.low, at.within) in
@@ -39,23 +39,23 @@ pub set_status-requires : goal.set_status-requires
 set_status-requires c =
     let m = kept_of c.args.self.now in
     let t = c.args.mail.ticket.0 in
-    let at = queue_placed c.states_are_known.ensures m t c.args.mail.number c.args.path c.requires.enabled.0 c.args.host.0 c.requires.enabled.1 in
+    let at = queue_placed c.states_are_known.ensures m t c.args.mail.number c.args.path.now c.requires.enabled.0 c.args.host.0 c.requires.enabled.1 in
     let i = t - m.first in
     let place : m.first + i ≡ t = omega (arith, at.low) in
     let within : i < length m.cells = omega (arith, at.low, at.within) in
     let there : slice_get m.cells i ≡ Some c.index_mut-cell.result.now = slice_get_read m.cells _ i c.index_mut-cell.result.now refl within c.index_mut-cell.ensures.value in
-    ap is_over c.take_mail.ensures.status ∙ queue_goes_on c.states_are_known.ensures m t c.args.mail.number c.args.path c.requires.enabled.0 c.args.host.0 c.requires.enabled.1 i c.index_mut-cell.result.now place there
+    ap is_over c.take_mail.ensures.status ∙ queue_goes_on c.states_are_known.ensures m t c.args.mail.number c.args.path.now c.requires.enabled.0 c.args.host.0 c.requires.enabled.1 i c.index_mut-cell.result.now place there
 
 pub index_mut-store-requires : goal.index_mut-store-requires
 index_mut-store-requires c =
-    let at = queue_placed c.states_are_known.ensures (kept_of c.args.self.now) c.args.mail.ticket.0 c.args.mail.number c.args.path c.requires.enabled.0 c.args.host.0 c.requires.enabled.1 in
+    let at = queue_placed c.states_are_known.ensures (kept_of c.args.self.now) c.args.mail.ticket.0 c.args.mail.number c.args.path.now c.requires.enabled.0 c.args.host.0 c.requires.enabled.1 in
     let within : c.args.host.0 < length c.args.self.now.stores.items = at.host_in in
     search (rules, within)
 
 pub line_up-requires : goal.line_up-requires
 line_up-requires c =
     let m = kept_of c.args.self.now in
-    let at = queue_placed c.states_are_known.ensures m c.args.mail.ticket.0 c.args.mail.number c.args.path c.requires.enabled.0 c.args.host.0 c.requires.enabled.1 in
+    let at = queue_placed c.states_are_known.ensures m c.args.mail.ticket.0 c.args.mail.number c.args.path.now c.requires.enabled.0 c.args.host.0 c.requires.enabled.1 in
     c.requires.part.room c.index_mut-store.result.now (slice_get_read m.stores _ c.args.host.0 c.index_mut-store.result.now refl at.host_in c.index_mut-store.ensures.value)
 
 pub returns-clause-takes : goal.returns-clause-takes
@@ -63,7 +63,7 @@ returns-clause-takes c = λ w.
     let m = kept_of c.args.self.now in
     let t = c.args.mail.ticket.0 in
     let k = c.args.mail.number in
-    let at = queue_placed c.states_are_known.ensures m t k c.args.path c.requires.enabled.0 c.args.host.0 c.requires.enabled.1 in
+    let at = queue_placed c.states_are_known.ensures m t k c.args.path.now c.requires.enabled.0 c.args.host.0 c.requires.enabled.1 in
     let i = t - m.first in
     let place : m.first + i ≡ t = omega (arith, at.low) in
     let within : i < length m.cells = omega (arith, at.low, at.within) in
@@ -71,20 +71,20 @@ returns-clause-takes c = λ w.
     let there : slice_get m.cells i ≡ Some cell = slice_get_read m.cells _ i cell refl within c.index_mut-cell.ensures.value in
     let store = c.index_mut-store.result.now in
     let here : slice_get m.stores c.args.host.0 ≡ Some store = slice_get_read m.stores _ c.args.host.0 store refl at.host_in c.index_mut-store.ensures.value in
-    let takes : TakesAndWaits cell c.set_status.new.self k (theory.Waiting c.args.path) = record {
+    let takes : TakesAndWaits cell c.set_status.new.self k (theory.Waiting c.args.path.now) = record {
       desk = λ d over h. c.set_status.ensures.desk (with_mail d k None) (ap is_over c.take_mail.ensures.status ∙ over) (c.take_mail.ensures.desk d h);
       actor = c.set_status.ensures.actor ∙ c.take_mail.ensures.actor;
     } in
     let numbers = ap (λ o. option_map (λ (a : Ask). a.number) (asked_in o)) (sym c.mail.ensures) ∙ c.asked_in-number.ensures.number in
     let peeks = ap (λ o. option_map (λ (a : Ask). a.peek) (asked_in o)) (sym c.mail.ensures) ∙ c.asked_in-number.ensures.peek in
-    queue_taken c.states_are_known.ensures m t k c.args.path w c.args.host.0 i cell c.set_status.new.self store c.line_up.new.store c.args.born c.asked_in-number.result.0 c.asked_in-number.result.1 place there takes here c.requires.part numbers peeks c.line_up.ensures
+    queue_taken c.states_are_known.ensures m t k c.args.path.now w c.args.host.0 i cell c.set_status.new.self store c.line_up.new.store c.args.born c.asked_in-number.result.0 c.asked_in-number.result.1 place there takes here c.requires.part numbers peeks c.line_up.ensures
 
 pub returns-clause-moves : goal.returns-clause-moves
 returns-clause-moves c = λ w.
     let m = kept_of c.args.self.now in
     let t = c.args.mail.ticket.0 in
     let k = c.args.mail.number in
-    let p = c.args.path in
+    let p = c.args.path.now in
     let at = queue_placed c.states_are_known.ensures m t k p c.requires.enabled.0 c.args.host.0 c.requires.enabled.1 in
     let i = t - m.first in
     let place : m.first + i ≡ t = omega (arith, at.low) in
