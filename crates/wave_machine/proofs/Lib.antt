@@ -12,6 +12,7 @@ pub mod Ordering
 pub mod Relisted
 pub mod Owned
 pub mod Renewed
+pub mod Near
 pub mod Heads
 pub mod Ways
 pub mod Elsewhere

@@ -18,7 +18,8 @@ use Rattle.wave_effects.specs.Sized.{IsNumbered}
 use Rattle.wave_machine.specs.inner.Asking.{in_order, mail_labels}
 use Rattle.wave_machine.specs.inner.Index.{AreOwn, IsEntering, IsHead, IsInner, IsOwn, RelistsNear, Renews, is_enter, mail_at, asked_as, asked_at, asked_by, asked_of, by_none, by_part, by_slot, cell_at, act_number, numbers_in, sent_at, sent_by, slot_at, slot_by, with_above, with_next, with_slot}
 use Rattle.wave_machine.specs.inner.Updating.{KeepsMails, Taken, has_at, is_queue, next_at}
-use Rattle.wave_machine.proofs.Renewed.{own_above, same_slots, silent_slot}
+use Rattle.wave_machine.proofs.Renewed.{own_above, same_slots}
+use Rattle.wave_machine.proofs.Near.{silent_slot}
 use Rattle.wave_machine.proofs.Elsewhere.{asked_mail, grown_few, others_slot, own_slot}
 use Rattle.wave_machine.proofs.ListingLists.{flat_none}
 use Rattle.wave_machine.proofs.Ordering.{all_flat, all_map, flat_append, numbers_append, same_numbered}

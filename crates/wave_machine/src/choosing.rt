@@ -1,6 +1,6 @@
 //! What an idle worker can do, and one of it, read off the index.
 
-ghost use Rattle.std.specs.Prelude.{◌≡◌, ℕ, Some, None, map, slice_get};
+ghost use Rattle.std.specs.Prelude.{◌≡◌, ℕ, Some, None, map, slice_get, option_copied};
 ghost use Rattle.wave_base.specs.declared.start.Start.{Start};
 ghost use Rattle.wave_states.specs.Canonical.{taken_as};
 ghost use Rattle.wave_effects.specs.Machines.{Stands, TheState};
@@ -46,17 +46,17 @@ impl<'p> Listed<'p> {
 }
 
 // One of the last kind: the last one of a late kind, behind which nothing moves when it is taken out, and else the first one.
-fn one_of_last(index: &[Ready]) -> Option<Ready>
-    ensures { IsPickOf index.now result }
+fn one_of_last(index: &[Ready]) -> Option<&Ready>
+    ensures { IsPickOf index.now (option_copied result) }
 {
     match index.last() {
         Some(last) => {
             if is_late(&last.act) {
-                return Some(*last);
+                return Some(last);
             }
             match index.get(place(index, kind_rank(&last.act), Ticket(0), 0)) {
-                Some(first) => Some(*first),
-                None => Some(*last),
+                Some(first) => Some(first),
+                None => Some(last),
             }
         }
         None => None,

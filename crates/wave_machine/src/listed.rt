@@ -23,7 +23,7 @@ ghost use Rattle.wave_effects.specs.Spare.{IsAsLong, SameButRooms};
 use crate::done::{count_done, done_stays};
 use crate::index::{is_on_head, ticket_of};
 use crate::listable::states_list;
-use crate::looks::{asks_at, line_at, may_leave, path_of, sent_at, share_at};
+use crate::looks::{asks_at, line_at, may_leave, path_in, sent_at, share_at};
 use crate::ready::Ready;
 use crate::renewing::{relist_after, relist_head, renew_head};
 use std::alloc::Global;
@@ -158,7 +158,9 @@ impl<'p> Listed<'p> {
         states_are_known();
         states_list();
         done_stays();
-        let seen = self.look(label.host, ticket_of(&label.act), &path_of(&label.act));
+        let root = Path::root();
+        let path = path_in(&label.act, &root);
+        let seen = self.look(label.host, ticket_of(&label.act), path);
         self.engine.act(label, part);
         self.update(label, seen);
     }
@@ -180,7 +182,9 @@ impl<'p> Listed<'p> {
         states_are_known();
         states_list();
         done_stays();
-        let seen = self.look(label.host, ticket_of(&label.act), &path_of(&label.act));
+        let root = Path::root();
+        let path = path_in(&label.act, &root);
+        let seen = self.look(label.host, ticket_of(&label.act), path);
         let lease = self.engine.act_start(label, part);
         self.update(label, seen);
         lease

@@ -1,16 +1,17 @@
 //! What is looked at of a ticket and of the line of a context.
 
-ghost use Rattle.std.specs.Prelude.{◌≡◌, ◌+◌, Some, option_copied, option_map, slice_get};
+ghost use Rattle.std.specs.Prelude.{◌≡◌, ◌+◌, [], Some, option_copied, option_map, slice_get};
 ghost use Rattle.wave_labels.specs.Labels.{act_of};
 ghost use Rattle.wave_states.specs.Labels.{path_of};
 ghost use Rattle.wave_effects.specs.Keeping.{kept_of};
-ghost use Rattle.wave_machine.specs.inner.Index.{asks_at, asks_in, cell_at, held_at, sent_at, share_at, share_of};
+ghost use Rattle.wave_machine.specs.inner.Index.{asks_at, asks_in, cell_at, held_at, is_enter, is_enter_letter, sent_at, share_at, share_of};
 ghost use Rattle.wave_machine.specs.inner.Updating.{has_at, next_at, next_of};
 
 use crate::asking::store_at;
 use context_queue::{Entry, entries_stand};
-use event_cells::{Cell, Status};
+use event_cells::{Cell, Envelope, Status};
 use host_map::HostStore;
+use migration_core::Letter;
 use wave_base::{Host, Path, Ticket};
 use wave_effects::{Actor, Engine};
 use wave_labels::Act;
@@ -96,16 +97,30 @@ pub(crate) fn cell_at<'a>(engine: &'a Engine, ticket: Ticket) -> Option<&'a Cell
     engine.cells.get((ticket.0 - engine.first) as usize)
 }
 
-// The context that a label is on; the root where it is on none.
-pub(crate) fn path_of(act: &Act) -> Path
-    ensures { result ≡ path_of (act_of act.now) }
+// The context that a label is on, where it stands in the act; `root`, which is the root's, where it is on none.
+pub(crate) fn path_in<'a>(act: &'a Act, root: &'a Path) -> &'a Path
+    requires { root.now ≡ [] }
+    ensures { result.now ≡ path_of (act_of act.now) }
 {
     match act {
-        Act::Admit(_) | Act::Commit(_) => Path::root(),
-        Act::Grant(_, path) | Act::Start(_, path) | Act::Stop(_, path) => *path,
-        Act::Queue(_, path) | Act::Visit(_, path) | Act::Free(_, path) => *path,
-        Act::Pass(_, path, _) | Act::Land(_, path) => *path,
+        Act::Admit(_) | Act::Commit(_) => root,
+        Act::Grant(_, path) | Act::Start(_, path) | Act::Stop(_, path) => path,
+        Act::Queue(_, path) | Act::Visit(_, path) | Act::Free(_, path) => path,
+        Act::Pass(_, path, _) | Act::Land(_, path) => path,
     }
+}
+
+// Whether a mail is an Enter to a context at a host.
+pub(crate) fn is_enter(envelope: &Envelope, host: Host, path: &Path) -> bool
+    ensures { result ≡ is_enter host.0 path.now (Some envelope.now) }
+{
+    envelope.to == host && (envelope.path == *path && is_entering(&envelope.letter))
+}
+
+fn is_entering(letter: &Letter) -> bool
+    ensures { result ≡ is_enter_letter letter.now }
+{
+    matches!(letter, Letter::Enter { .. })
 }
 
 // How many entries the index may have for a cell.

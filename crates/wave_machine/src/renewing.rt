@@ -15,7 +15,7 @@ ghost use Rattle.wave_machine.specs.inner.Asking.{admit_labels, in_order, label_
 ghost use Rattle.wave_effects.specs.Sized.{IsListable};
 ghost use Rattle.wave_machine.specs.inner.Done.{AreDone};
 ghost use Rattle.wave_machine.specs.inner.Others.{but};
-ghost use Rattle.wave_machine.specs.inner.Index.{IsAmong, IsEntering, IsHead, IsInner, Lists, ListsNew, Relists, RelistsBoth, RelistsNear, RelistsNext, RelistsOwn, RelistsStatus, Renews, asked_as, asked_at, asks_at, by_none, by_part, head_in, is_admit, is_enter, is_enter_letter, mail_at, act_number, weight_of};
+ghost use Rattle.wave_machine.specs.inner.Index.{IsAmong, IsEntering, IsHead, IsInner, Lists, ListsNew, Relists, RelistsBoth, RelistsNear, RelistsNext, RelistsOwn, RelistsStatus, Renews, asked_as, asked_at, asks_at, by_none, by_part, head_in, is_admit, is_enter, mail_at, act_number, weight_of};
 ghost use Rattle.wave_machine.specs.inner.Updating.{Taken, is_queue, next_at};
 ghost use Rattle.wave_effects.specs.Keeping.{kept_of};
 
@@ -24,11 +24,10 @@ use crate::index::{
     act_number, cut_admit, cut_commit, cut_slot, is_at, is_queue, put_some, ticket_of,
 };
 use crate::listed::Seen;
-use crate::looks::{asks_at, cell_at, line_at, path_of};
+use crate::looks::{asks_at, cell_at, is_enter, line_at, path_in};
 use crate::order::{ADMIT, GRANT, QUEUE, kind_rank};
 use crate::ready::Ready;
 use event_cells::{Cell, Envelope};
-use migration_core::Letter;
 use wave_base::{Host, Path, Ticket, Worker};
 use wave_effects::{Actor, Engine};
 use wave_labels::{Act, Label, MailId};
@@ -93,16 +92,28 @@ fn relist_status(engine: &Engine, ticket: Ticket, likely: u8, asked: bool, index
     ensures len { vec_len index.new ≤ vec_len index.old + 1 }
     ensures capacity { vec_capacity index.new ≡ vec_capacity index.old }
 {
-    if is_asked(engine, ticket, asked) {
+    if asked {
         relist_slot(engine, ticket, 0, likely, index);
+    } else if asks_at(engine, ticket) {
+        list_status(engine, ticket, index);
     }
 }
 
-// Whether a status was asked, or is to be asked now.
-fn is_asked(engine: &Engine, ticket: Ticket, asked: bool) -> bool
-    ensures { result ≡ (asked || asks_at (kept_of engine.now) ticket.0) }
+// Lists what the status of a ticket asks for, which has nothing in the list.
+fn list_status(engine: &Engine, ticket: Ticket, index: &mut Vec<Ready>)
+    requires listable { IsListable (kept_of engine.now) }
+    requires room { vec_len index.old < vec_capacity index.old }
+    ensures relists { RelistsStatus (kept_of engine.now) ticket.0 false index.old.items index.new.items }
+    ensures len { vec_len index.new ≤ vec_len index.old + 1 }
+    ensures capacity { vec_capacity index.new ≡ vec_capacity index.old }
 {
-    asked || asks_at(engine, ticket)
+    match cell_at(engine, ticket) {
+        Some(cell) => put_some(
+            index,
+            status_label(engine, Worker(0), ticket, &cell.status()),
+        ),
+        None => (),
+    }
 }
 
 // Lists anew what a number of a ticket asks for. What it asked for is likely of this kind.
@@ -203,7 +214,8 @@ pub(crate) fn relist_after(
     ensures len { vec_len index.new ≤ vec_len index.old + (4 + (weight_of engine.now.cells.items + weight_of engine.now.cells.items)) }
     ensures capacity { vec_capacity index.new ≡ vec_capacity index.old }
 {
-    let (here, next) = line_at(engine, label.host, &path_of(&label.act));
+    let root = Path::root();
+    let (here, next) = line_at(engine, label.host, path_in(&label.act, &root));
     relist_near(engine, label, seen, next, index);
     relist_moved(
         engine,
@@ -224,7 +236,8 @@ fn relist_moved(engine: &Engine, label: &Label, moved: bool, done: usize, index:
     ensures capacity { vec_capacity index.new ≡ vec_capacity index.old }
 {
     if moved {
-        relist_enters(engine, label.host, &path_of(&label.act), done, index);
+        let root = Path::root();
+        relist_enters(engine, label.host, path_in(&label.act, &root), done, index);
     }
 }
 
@@ -274,19 +287,6 @@ fn relist_if(engine: &Engine, ticket: Ticket, number: u32, wanted: bool, index: 
     if wanted {
         relist_slot(engine, ticket, number, QUEUE, index);
     }
-}
-
-// Whether a mail is an Enter to a context at a host.
-fn is_enter(envelope: &Envelope, host: Host, path: &Path) -> bool
-    ensures { result ≡ is_enter host.0 path.now (Some envelope.now) }
-{
-    envelope.to == host && (envelope.path == *path && is_entering(&envelope.letter))
-}
-
-fn is_entering(letter: &Letter) -> bool
-    ensures { result ≡ is_enter_letter letter.now }
-{
-    matches!(letter, Letter::Enter { .. })
 }
 
 // Lists the mails of a ticket, in ascending order.

@@ -12,7 +12,7 @@ returns-clause-all c = λ m more h taken head old.
     let m' = kept_of c.args.engine.now in
     let l = label_of c.args.label.now in
     let store = slice_get m'.stores l.host in
-    let there : has_at (path_of l.act) store ≡ c.line_at-here.result.0 = ap (λ q. has_at q store) (sym c.path_of.ensures) ∙ sym c.line_at-here.ensures.here in
+    let there : has_at (path_of l.act) store ≡ c.line_at-here.result.0 = ap (λ q. has_at q store) (sym c.path_in.ensures) ∙ sym c.line_at-here.ensures.here in
     let stays : c.is_same.result ≡ true → has_at (path_of l.act) store ≡ c.args.seen.here = λ same. there ∙ c.is_same.ensures.0 same in
     let same : has_at (path_of l.act) store ≡ c.args.seen.here → c.is_same.result ≡ true = λ e. c.is_same.ensures.1 (sym there ∙ e) in
     near_is m m' l c.args.seen more taken h head c.has_moved.result (ways_by m m' l c.args.seen more taken c.has_moved.result c.is_same.result stays same c.has_moved.ensures)

@@ -5,7 +5,7 @@ use Rattle.wave_base.specs.contracts.numbers.TicketPartialEq.TheImpl.{eq-value}
 use Rattle.wave_base.specs.declared.numbers.Ticket.{Ticket}
 use Rattle.wave_theory.proofs.Basics.{number_is}
 use Rattle.wave_effects.specs.Keeping.{kept_of}
-use Rattle.wave_machine.proofs.Renewed.{both_one, both_two}
+use Rattle.wave_machine.proofs.Near.{both_one, both_two}
 use Rattle.wave_machine.proofs.renewing.relist_both.Goals as goal
 
 abbrev number : Option Ticket → Option ℕ

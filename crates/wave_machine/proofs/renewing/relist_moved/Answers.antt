@@ -14,7 +14,7 @@ returns-then-moved-clause-renews c =
     let old = c.args.index.now.items in
     let new = c.relist_enters.new.index.items in
     renews_less m (λ u j. is_enter l.host (path_of l.act) (mail_at m u j) ≡ true) (IsEntering m l c.args.moved) (λ u j z. and_second c.args.moved (is_enter l.host (path_of l.act) (mail_at m u j)) z) old new
-    (subst (λ q. Renews m (λ u j. is_enter l.host q (mail_at m u j) ≡ true) old new) c.path_of.ensures c.relist_enters.ensures.renews)
+    (subst (λ q. Renews m (λ u j. is_enter l.host q (mail_at m u j) ≡ true) old new) c.path_in.ensures c.relist_enters.ensures.renews)
 
 pub returns-else-moved-clause-renews : goal.returns-else-moved-clause-renews
 returns-else-moved-clause-renews c =

@@ -7,7 +7,7 @@ use Rattle.wave_effects.specs.Keeping.{kept_of}
 use Rattle.wave_machine.specs.inner.Index.{RelistsBoth, RelistsNear, act_number}
 use Rattle.wave_machine.specs.inner.Updating.{next_at}
 use Rattle.wave_machine.specs.inner.Others.{but}
-use Rattle.wave_machine.proofs.Renewed.{near}
+use Rattle.wave_machine.proofs.Near.{near}
 use Rattle.wave_machine.proofs.renewing.relist_near.Goals as goal
 
 pub returns-clause-relists : goal.returns-clause-relists

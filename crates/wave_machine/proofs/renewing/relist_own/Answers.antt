@@ -1,5 +1,5 @@
 use Rattle.wave_effects.specs.Keeping.{kept_of}
-use Rattle.wave_machine.proofs.Renewed.{own_one, own_two}
+use Rattle.wave_machine.proofs.Near.{own_one, own_two}
 use Rattle.wave_machine.proofs.renewing.relist_own.Goals as goal
 
 pub returns-then-number-ne0-clause-relists : goal.returns-then-number-ne0-clause-relists

@@ -1,21 +1,14 @@
-use Rattle.std.proofs.Common.{◌≡◌, ◌∙◌, ◌||◌, Bool, true, false, true≢false, refl, sym}
+use Rattle.std.proofs.Common.{◌∙◌, Bool, sym, subst}
 use Rattle.wave_effects.specs.Keeping.{kept_of}
-use Rattle.wave_machine.proofs.Renewed.{status_all, status_none}
+use Rattle.wave_machine.specs.inner.Index.{RelistsStatus}
+use Rattle.wave_machine.proofs.Near.{status_all, status_none}
 use Rattle.wave_machine.proofs.renewing.relist_status.Goals as goal
 
--- where neither is
-first_not : (a b : Bool) → (a || b) ≡ false → a ≡ false
-first_not true b e = absurd (true≢false e)
-first_not false b e = refl
+pub returns-then-asked-clause-relists : goal.returns-then-asked-clause-relists
+returns-then-asked-clause-relists c = status_all (kept_of c.args.engine.now) c.args.ticket.0 c.args.asked c.args.index.now.items c.relist_slot.new.index.items c.relist_slot.ensures.relists
 
-second_not : (a b : Bool) → (a || b) ≡ false → b ≡ false
-second_not true b e = absurd (true≢false e)
-second_not false b e = e
+pub returns-then-asks_at-clause-relists : goal.returns-then-asks_at-clause-relists
+returns-then-asks_at-clause-relists c = subst (λ (b : Bool). RelistsStatus (kept_of c.args.engine.now) c.args.ticket.0 b c.args.index.now.items c.list_status.new.index.items) (sym c.if-asked.false) c.list_status.ensures.relists
 
-pub returns-then-is_asked-clause-relists : goal.returns-then-is_asked-clause-relists
-returns-then-is_asked-clause-relists c = status_all (kept_of c.args.engine.now) c.args.ticket.0 c.args.asked c.args.index.now.items c.relist_slot.new.index.items c.relist_slot.ensures.relists
-
-pub returns-else-is_asked-clause-relists : goal.returns-else-is_asked-clause-relists
-returns-else-is_asked-clause-relists c =
-    let neither = sym c.is_asked.ensures ∙ c.if-is_asked.false in
-    status_none (kept_of c.args.engine.now) c.args.ticket.0 c.args.asked c.args.index.now.items (first_not c.args.asked _ neither) (second_not c.args.asked _ neither)
+pub returns-else-asks_at-clause-relists : goal.returns-else-asks_at-clause-relists
+returns-else-asks_at-clause-relists c = status_none (kept_of c.args.engine.now) c.args.ticket.0 c.args.asked c.args.index.now.items c.if-asked.false (sym c.asks_at.ensures ∙ c.if-asks_at.false)

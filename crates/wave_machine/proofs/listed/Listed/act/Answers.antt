@@ -21,7 +21,7 @@ update-requires c =
     let l = label_of c.args.label.now in
     let on = c.requires.enabled in
     let stood = stood_after m m' c.args.label.now on c.act.ensures.takes in
-    let sees = subst (λ t. Sees m l.host t (path_of l.act) c.look-seen.result) c.ticket_of.ensures (subst (λ p. Sees m l.host c.ticket_of.result.0 p c.look-seen.result) c.path_of.ensures c.look-seen.ensures) in (
+    let sees = subst (λ t. Sees m l.host t (path_of l.act) c.look-seen.result) c.ticket_of.ensures (subst (λ p. Sees m l.host c.ticket_of.result.0 p c.look-seen.result) c.path_in-path.ensures c.look-seen.ensures) in (
       m,
       0,
       record {

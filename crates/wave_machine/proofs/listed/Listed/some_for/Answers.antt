@@ -14,9 +14,9 @@ returns-in-Some c = λ start s stands.
     let w = c.args.worker.0 in
     let list = c.states_list.ensures.can m.plan start stands.labels s stands.fits stands.begins stands.reached in
     let is = taken_is w m c.requires.idle start s stands.shows list index c.requires.listed.index in
-    let picked : IsIn index c.in-Some.ready = subst (λ xs. IsIn xs c.in-Some.ready) c.deref.ensures.value c.in-Some.ensures in
+    let picked : IsIn index c.in-Some.ready.now = subst (λ xs. IsIn xs c.in-Some.ready.now) c.deref.ensures.value c.in-Some.ensures in
     subst (λ ls. IsIn ls (label_of c.by.result)) is
-    (subst (IsIn (map (λ (r : Ready). with_worker w (by_none r)) index)) (sym (ap label_of c.by.ensures)) (in_mapped (λ (r : Ready). with_worker w (by_none r)) index c.in-Some.ready picked))
+    (subst (IsIn (map (λ (r : Ready). with_worker w (by_none r)) index)) (sym (ap label_of c.by.ensures)) (in_mapped (λ (r : Ready). with_worker w (by_none r)) index c.in-Some.ready.now picked))
 
 pub returns-in-None : goal.returns-in-None
 returns-in-None c = λ start s stands.
