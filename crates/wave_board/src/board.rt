@@ -15,7 +15,7 @@ use kept_lock::Kept;
 use label_log::Recorder;
 use std::alloc::Global;
 use wave_base::{OutOfMemory, Start, Worker};
-use wave_effects::Plan;
+use wave_effects::{Lease, Plan};
 use wave_machine::Machine;
 
 /// Who stopped the workers, why, and after how many labels of the journal.
@@ -38,6 +38,8 @@ pub struct Board<'p> {
     pub(crate) word: Option<StopWord>,
     // What its workers left for each other.
     pub(crate) crew: Crew,
+    // The box of a lease that came back, for the next one.
+    pub(crate) spare: Option<Box<Option<Lease>>>,
 }
 
 impl<'p> Kept for Board<'p> {
@@ -68,6 +70,7 @@ impl<'p> Board<'p> {
             journal: Recorder::new(alloc),
             word: None,
             crew: Crew::nobody(true),
+            spare: None,
         })
     }
 
@@ -85,6 +88,7 @@ impl<'p> Board<'p> {
             journal: Recorder::new(alloc),
             word: None,
             crew: Crew::nobody(true),
+            spare: None,
         })
     }
 

@@ -23,7 +23,10 @@ impl<'p> Board<'p> {
     {
         let (place, lease) = parcel.open();
         match self.put_back(lease, pause) {
-            Ok(()) => Ok(()),
+            Ok(()) => {
+                self.spare = Some(place);
+                Ok(())
+            }
             Err(
                 Refused {
                     lease,

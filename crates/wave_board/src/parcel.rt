@@ -1,6 +1,6 @@
 //! A lease on its way to a worker, and back.
 
-ghost use Rattle.std.specs.Prelude.{◌≡◌, true, is_some, IfOk};
+ghost use Rattle.std.specs.Prelude.{◌≡◌, true, None, is_some, IfOk};
 ghost use Rattle.service_verify.specs.Fit.{IsFit};
 ghost use Rattle.wave_states.specs.States.{Hand};
 ghost use Rattle.code_actor.specs.CodeActors.{Fields};
@@ -52,7 +52,8 @@ impl Parcel {
 
     // The box, which is empty then, and the lease.
     pub(crate) fn open(self) -> (Box<Option<Lease>>, Lease)
-        ensures { result.1 ≡ self }
+        ensures lease { result.1 ≡ self }
+        ensures empty { result.0.value ≡ None }
     {
         let mut place = self.place;
         match place.take() {

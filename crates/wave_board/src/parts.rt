@@ -26,6 +26,7 @@ impl<'p> Board<'p> {
             journal,
             word,
             crew,
+            spare,
         } = self;
         match machine.into_finished() {
             Ok(finished) => Ok((finished, journal.into_log())),
@@ -36,6 +37,7 @@ impl<'p> Board<'p> {
                     journal,
                     word,
                     crew,
+                    spare,
                 },
                 error,
             )),

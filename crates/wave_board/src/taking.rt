@@ -10,8 +10,10 @@ use crate::board::Board;
 use crate::known::{idle_hands_are_empty, lists_are_known};
 use crate::parcel::Parcel;
 use crate::turn::Turn;
-use label_log::path_of;
-use wave_base::{OutOfMemory, Worker};
+use label_log::path_in;
+use std::alloc::Global;
+use wave_base::{OutOfMemory, Path, Worker};
+use wave_effects::Lease;
 use wave_labels::{Act, Label};
 
 impl<'p> Board<'p> {
@@ -43,7 +45,7 @@ impl<'p> Board<'p> {
         }
         match self.choice(worker) {
             None => Ok(Turn::Nothing),
-            Some(label) => self.append(label),
+            Some(label) => self.append(&label),
         }
     }
 
@@ -59,23 +61,35 @@ impl<'p> Board<'p> {
     }
 
     // Takes a label: all that wants memory comes first.
-    fn append(&mut self, label: Label) -> Result<Turn, OutOfMemory>
-        requires can { CanAppend self.old label }
-        requires kind { is_start label.act ≡ false → is_step label.act ≡ true }
+    fn append(&mut self, label: &Label) -> Result<Turn, OutOfMemory>
+        requires can { CanAppend self.old label.now }
+        requires kind { is_start label.now.act ≡ false → is_step label.now.act ≡ true }
         ensures stands { StandsStill self.old self.new }
-        ensures took { IfOk result (λ work. Appends self.old label self.new work) }
+        ensures took { IfOk result (λ work. Appends self.old label.now self.new work) }
         ensures same { OnErr result (history_of self.new ≡ history_of self.old) }
     {
-        self.journal.reserve(&path_of(&label.act))?;
+        let root = Path::root();
+        self.journal.reserve(path_in(&label.act, &root))?;
         if is_start(&label.act) {
-            let place = Box::new(self.alloc, None)?;
-            let lease = self.machine.take_start(&label)?;
-            self.journal.push_reserved(&label);
+            let place = place_for(self.alloc, &mut self.spare)?;
+            let lease = self.machine.take_start(label)?;
+            self.journal.push_reserved(label);
             return Ok(Turn::Segment(Parcel::of(place, lease)));
         }
-        self.machine.take(&label)?;
-        self.journal.push_reserved(&label);
-        Ok(Turn::Stepped(label))
+        self.machine.take(label)?;
+        self.journal.push_reserved(label);
+        Ok(Turn::Stepped(*label))
+    }
+}
+
+// A box for a lease: the one that is spare, or a new one.
+fn place_for(
+    alloc: Global,
+    spare: &mut Option<Box<Option<Lease>>>,
+) -> Result<Box<Option<Lease>>, OutOfMemory> {
+    match spare.take() {
+        Some(place) => Ok(place),
+        None => Ok(Box::new(alloc, None)?),
     }
 }
 
