@@ -7,7 +7,7 @@ use wave_board::Parcel;
 #[derive(Drop)]
 pub(crate) struct Packet {
     /// The segment, with what it made of its actor and its context.
-    pub lease: Parcel,
+    pub parcel: Parcel,
     /// Why it paused.
     pub pause: Pause,
     /// The ticks that it took.

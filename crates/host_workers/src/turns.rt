@@ -56,11 +56,11 @@ fn bring(board: &mut Board, packet: Option<Packet>) -> Result<Option<u32>, OutOf
         None => Ok(None),
         Some(
             Packet {
-                lease,
+                parcel,
                 pause,
                 ticks,
             },
-        ) => match board.give(lease, pause) {
+        ) => match board.give(parcel, pause) {
             Ok(()) => Ok(Some(ticks)),
             Err(refused) => Err(refused.error),
         },

@@ -130,7 +130,7 @@ fn run_out<'l, 'p, R: Wait, G: Gate>(
 ) -> Result<Packet, OutOfMemory>
     requires plan { (name_of post.now.lock.now).plan.now ≡ post.now.plan.now }
     requires leased { HasLease (name_of post.now.lock.now) (knowledge pass.now) post.now.number parcel }
-    ensures { IfOk result (λ p. HasPaused (name_of post.now.lock.now) (knowledge pass.now) post.now.number p.lease p.pause) }
+    ensures { IfOk result (λ p. HasPaused (name_of post.now.lock.now) (knowledge pass.now) post.now.number p.parcel p.pause) }
 {
     let mut parcel = parcel;
     let lease = parcel.lease();
@@ -139,7 +139,7 @@ fn run_out<'l, 'p, R: Wait, G: Gate>(
     let pause = parcel.run(post.alloc, &post.plan.program)?;
     let ticks = before.saturating_sub(parcel.lease().actor.ticks());
     Ok(Packet {
-        lease: parcel,
+        parcel,
         pause,
         ticks,
     })
