@@ -1,12 +1,12 @@
 -- How two paths compare, step by step.
-use Rattle.std.proofs.Common.{◌≡◌, ◌∙◌, ℕ, ◌+◌, ◌-◌, ◌<◌, ◌≤◌, List, [], ◌∷◌, length, get_or, drop, not, true, false, ◌==◌, refl, arith}
+use Rattle.std.proofs.Common.{◌≡◌, ◌∙◌, ℕ, ◌+◌, ◌-◌, ◌<◌, ◌≤◌, List, [], ◌∷◌, length, get_or, drop, not, true, false, ◌==◌, ◌&&◌, refl, arith}
 use Rattle.std.proofs.lemmas.Bool.Decides.{nat_tests}
 use Rattle.std.proofs.lemmas.List.{drop_more, length-drop}
 use Rattle.std.specs.Ordering.{nat_cmp, ordering_then, ordering_index}
 use Rattle.std.specs.declared.cmp.Ordering.{Ordering}
 use Rattle.std.specs.declared.cmp.Ordering.TheVariants.{Less, Equal, Greater}
 use Rattle.wave_base.specs.declared.path.Step.{Step}
-use Rattle.wave_base.specs.Paths.{step_cmp, path_cmp}
+use Rattle.wave_base.specs.Paths.{step_cmp, path_cmp, step_eq, is_above}
 
 pub cmp_more : (p q : List Step) (i : ℕ) (d : Step) → i < length p → i < length q → path_cmp (drop i p) (drop i q) ≡ ordering_then (step_cmp (get_or p i d) (get_or q i d)) (path_cmp (drop (i + 1) p) (drop (i + 1) q))
 cmp_more p q i d l m = λ j. path_cmp (drop_more p i d l j) (drop_more q i d m j)
@@ -37,3 +37,7 @@ pub tied : (o r : Ordering) → not (ordering_index o == 1) ≡ false → r ≡ 
 tied Less r n = cc
 tied Equal r n = refl
 tied Greater r n = cc
+
+-- a path begins another where their steps at a place are the same and the rest of it begins the rest
+pub above_more : (p q : List Step) (i : ℕ) (d : Step) → i < length p → i < length q → is_above (drop i p) (drop i q) ≡ (step_eq (get_or p i d) (get_or q i d) && is_above (drop (i + 1) p) (drop (i + 1) q))
+above_more p q i d l m = λ j. is_above (drop_more p i d l j) (drop_more q i d m j)

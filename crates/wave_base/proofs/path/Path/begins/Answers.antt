@@ -1,21 +1,27 @@
-use Rattle.std.proofs.Common.{◌∙◌, ap, sym, length, take, Bool, ◌&&◌, ◌≤◌, int_eq, arith}
-use Rattle.std.specs.Cmp.Lexicographic.{pointwise}
+use Rattle.std.proofs.Common.{◌∙◌, ◌<◌, ◌+◌, ap, sym, length, drop, ◌&&◌, arith}
 use Rattle.wave_base.specs.Paths.{is_above}
-use Rattle.wave_base.proofs.Kept.{begins_is, length_steps}
+use Rattle.wave_base.proofs.Kept.{no_step}
+use Rattle.wave_base.proofs.Ordered.{above_more}
 use Rattle.wave_base.proofs.path.Path.begins.Goals as goal
 
-pub returns-then-eq : goal.returns-then-eq
-returns-then-eq c =
-    let l : c.self.inside.len ≤ c.other.inside.len = omega (arith, c.requires, length_steps c.self.inside c.self.invariant, length_steps c.other.inside c.other.invariant, ap length c.self.view_is, ap length c.other.view_is) in
-    let keys : Bool = pointwise int_eq (take c.from-n.result c.self.inside.keys) (take c.from-n.result c.other.inside.keys) in
-    c.eq-then-eq.ensures ∙ ap (λ b. b && keys) (sym c.if-eq.true ∙ c.eq.ensures)
-    ∙ begins_is c.self.inside c.other.inside c.self.invariant c.other.invariant l c.from-n.result c.from-n.ensures
-    ∙ (λ i. is_above (c.self.view_is i) (c.other.view_is i))
+pub returns-then-not-same_at : goal.returns-then-not-same_at
+returns-then-not-same_at c =
+    let here : c.loop-i.i < length c.args.self.now = omega (arith, c.loop-i-test.true, c.len.ensures.len) in
+    let there : c.loop-i.i < length c.args.other.now = omega (arith, here, c.requires) in
+    let rest = is_above (drop (c.loop-i.i + 1) c.args.self.now) (drop (c.loop-i.i + 1) c.args.other.now) in
+    sym (ap (λ b. b && rest) c.if-not-same_at.true)
+    ∙ ap (λ b. b && rest) (c.same_at.ensures no_step)
+    ∙ sym (above_more c.args.self.now c.args.other.now c.loop-i.i no_step here there)
+    ∙ c.loop-i.invariant.1
 
-pub returns-else-eq : goal.returns-else-eq
-returns-else-eq c =
-    let l : c.self.inside.len ≤ c.other.inside.len = omega (arith, c.requires, length_steps c.self.inside c.self.invariant, length_steps c.other.inside c.other.invariant, ap length c.self.view_is, ap length c.other.view_is) in
-    let keys : Bool = pointwise int_eq (take c.from-n.result c.self.inside.keys) (take c.from-n.result c.other.inside.keys) in
-    c.if-eq.false ∙ ap (λ b. b && keys) (sym c.if-eq.false ∙ c.eq.ensures)
-    ∙ begins_is c.self.inside c.other.inside c.self.invariant c.other.invariant l c.from-n.result c.from-n.ensures
-    ∙ (λ i. is_above (c.self.view_is i) (c.other.view_is i))
+pub loop-i-preserved : goal.loop-i-preserved
+loop-i-preserved c =
+    let here : c.loop-i.i < length c.args.self.now = omega (arith, c.loop-i-test.true, c.len.ensures.len) in
+    let there : c.loop-i.i < length c.args.other.now = omega (arith, here, c.requires) in
+    let rest = is_above (drop (c.loop-i.i + 1) c.args.self.now) (drop (c.loop-i.i + 1) c.args.other.now) in (
+      omega (arith, here),
+      sym (ap (λ b. b && rest) c.if-not-same_at.false)
+          ∙ ap (λ b. b && rest) (c.same_at.ensures no_step)
+          ∙ sym (above_more c.args.self.now c.args.other.now c.loop-i.i no_step here there)
+          ∙ c.loop-i.invariant.1,
+    )
