@@ -102,16 +102,14 @@ pub(crate) fn mail_label(
 ) -> Option<Label>
     ensures { labels_in result ≡ mail_labels engine.now.stores.items worker.0 id.ticket.0 id.number (Some envelope.now) }
 {
-    let path = envelope.path;
+    let path = &envelope.path;
     let act = match envelope.letter {
-        Letter::Enter { followed, .. } => enter_act(
-            id,
-            path,
-            way(engine, envelope.to, &path, followed),
-        )?,
-        Letter::Visit | Letter::Back => Act::Visit(id, path),
-        Letter::Release => Act::Free(id, path),
-        Letter::Transfer(_) => Act::Land(id, path),
+        Letter::Enter { followed, .. } => {
+            enter_act(id, path, way(engine, envelope.to, path, followed))?
+        }
+        Letter::Visit | Letter::Back => Act::Visit(id, *path),
+        Letter::Release => Act::Free(id, *path),
+        Letter::Transfer(_) => Act::Land(id, *path),
     };
     Some(Label {
         worker,
@@ -155,12 +153,12 @@ fn has_out(engine: &Engine, worker: Worker, out: &Out) -> bool
 }
 
 // What an Enter can do, by its route.
-fn enter_act(id: MailId, path: Path, way: Route) -> Option<Act>
-    ensures { option_map act_of result ≡ enter_act id.ticket.0 id.number path (route_of way) }
+fn enter_act(id: MailId, path: &Path, way: Route) -> Option<Act>
+    ensures { option_map act_of result ≡ enter_act id.ticket.0 id.number path.now (route_of way) }
 {
     match way {
-        Route::Deliver | Route::Born => Some(Act::Queue(id, path)),
-        Route::Forward(host) => Some(Act::Pass(id, path, host)),
+        Route::Deliver | Route::Born => Some(Act::Queue(id, *path)),
+        Route::Forward(host) => Some(Act::Pass(id, *path, host)),
         Route::Wait => None,
     }
 }

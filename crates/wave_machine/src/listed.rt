@@ -2,9 +2,10 @@
 
 ghost use Rattle.std.specs.Prelude.{◌≡◌, ◌↔◌, ◌≤◌, ◌+◌, ℕ, Some, true, length, slice_get, IsTrue, IfOk, IfErr, OnOk, OnErr};
 ghost use Rattle.wave_base.specs.declared.start.Start as start;
-ghost use Rattle.wave_labels.specs.Labels.{label_of};
+ghost use Rattle.wave_labels.specs.Labels.{act_of, label_of};
 ghost use Rattle.script_fold.specs.Runs.{finished_of};
 ghost use Rattle.wave_states.specs.Begins.{start_state};
+ghost use Rattle.wave_states.specs.Labels.{path_of, ticket_of};
 ghost use Rattle.wave_states.specs.Runs as runs;
 ghost use Rattle.plan_actors.specs.Calls.{code_ran};
 ghost use Rattle.plan_actors.specs.PlanActors.{plan_actors};
@@ -158,9 +159,7 @@ impl<'p> Listed<'p> {
         states_are_known();
         states_list();
         done_stays();
-        let root = Path::root();
-        let path = path_in(&label.act, &root);
-        let seen = self.look(label.host, ticket_of(&label.act), path);
+        let seen = self.look_at(label);
         self.engine.act(label, part);
         self.update(label, seen);
     }
@@ -182,9 +181,7 @@ impl<'p> Listed<'p> {
         states_are_known();
         states_list();
         done_stays();
-        let root = Path::root();
-        let path = path_in(&label.act, &root);
-        let seen = self.look(label.host, ticket_of(&label.act), path);
+        let seen = self.look_at(label);
         let lease = self.engine.act_start(label, part);
         self.update(label, seen);
         lease
@@ -230,6 +227,16 @@ impl<'p> Listed<'p> {
         }
     }
 
+    // What is looked at before a label that is no Stop.
+    fn look_at(&self, label: &Label) -> Seen
+        ensures { Sees (kept_of self.now.engine) label.now.host.0 (ticket_of (act_of label.now.act)) (path_of (act_of label.now.act)) result }
+    {
+        let root = Path::root();
+        let path = path_in(&label.act, &root);
+        self.look(label.host, ticket_of(&label.act), path)
+    }
+
+    // The same of a ticket, and of a context at a host.
     fn look(&self, host: Host, ticket: Ticket, path: &Path) -> Seen
         ensures { Sees (kept_of self.now.engine) host.0 ticket.0 path.now result }
     {

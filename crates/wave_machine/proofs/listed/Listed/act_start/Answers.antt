@@ -1,11 +1,9 @@
 use Rattle.std.proofs.Common.{◌∙◌, sym, ap, subst}
 use Rattle.wave_labels.specs.Labels.{label_of}
-use Rattle.wave_states.specs.Labels.{path_of}
 use Rattle.wave_effects.specs.declared.engine.Engine.{Engine}
 use Rattle.wave_effects.specs.Actors.{MayRun}
 use Rattle.wave_effects.specs.Keeping.{kept_of}
 use Rattle.wave_effects.specs.Machines.{Takes}
-use Rattle.wave_machine.specs.inner.Updating.{Sees}
 use Rattle.wave_machine.proofs.Births.{begins_not}
 use Rattle.wave_machine.proofs.Comings.{alone_here}
 use Rattle.wave_machine.proofs.Grows.{admit_grows}
@@ -21,8 +19,7 @@ update-requires c =
     let m' = kept_of c.act_start-lease.new.self in
     let l = label_of c.args.label.now in
     let on = c.requires.enabled in
-    let stood = stood_after m m' c.args.label.now on c.act_start-lease.ensures.takes in
-    let sees = subst (λ t. Sees m l.host t (path_of l.act) c.look-seen.result) c.ticket_of.ensures (subst (λ p. Sees m l.host c.ticket_of.result.0 p c.look-seen.result) c.path_in-path.ensures c.look-seen.ensures) in (
+    let stood = stood_after m m' c.args.label.now on c.act_start-lease.ensures.takes in (
       m,
       0,
       record {
@@ -32,7 +29,7 @@ update-requires c =
           mails = mails_taken c.states_are_known.ensures m m' l on c.act_start-lease.ensures.takes;
           numbered = numbered_stood c.states_are_known.ensures m (record { start = on.start; state = on.state; stands = on.stands });
           grows = admit_grows m l on;
-          sees = sees;
+          sees = c.look_at-seen.ensures;
           alone = alone_here c.states_list.ensures.can m m' l 0 (record { start = on.start; state = on.state; stands = on.stands }) stood c.act_start-lease.ensures.moves;
           born = λ queue. absurd (begins_not c.args.label.now.act c.requires.kind queue);
         };
