@@ -74,13 +74,13 @@ module _ (stay : LeasesStay) (o : Origin) (k : Known Trail) (w : Worker) (y : Bo
     brought_between : (packet : Option Packet) → Brings o k w packet → (given : Board) → IsBrought y packet given → Between o k w y given
     brought_between None ready given is = subst (Between o k w y) (sym is) (between_none ready)
     brought_between (Some p) paused given h =
-        between given (Step h.1.label ∷ []) h.1.history (giving.own_given o k w y meets stay p.parcel p.pause paused given h.0 h.1)
-        (giving.stands_given o k w y meets stay p.parcel p.pause paused given h.0 h.1)
-        (giving.ready_given o k w y meets stay p.parcel p.pause paused given h.0 h.1 (at_given k y given) refl)
+        between given (Step h.1.label ∷ []) h.1.history (giving.own_given o k w y meets stay p.reply.lease p.reply.pause paused given h.0 h.1)
+        (giving.stands_given o k w y meets stay p.reply.lease p.reply.pause paused given h.0 h.1)
+        (giving.ready_given o k w y meets stay p.reply.lease p.reply.pause paused given h.0 h.1 (at_given k y given) refl)
 
     can_bring : (packet : Option Packet) → Brings o k w packet → CanBring y packet
     can_bring None ready = tt
-    can_bring (Some p) paused = giving.can_give o k w y meets stay p.parcel p.pause paused
+    can_bring (Some p) paused = giving.can_give o k w y meets stay p.reply.lease p.reply.pause paused
 
     -- it is calm, with a segment out or without
     calm : (packet : Option Packet) → Brings o k w packet → IsCalm o k w

@@ -54,13 +54,7 @@ fn bring(board: &mut Board, packet: Option<Packet>) -> Result<Option<u32>, OutOf
 {
     match packet {
         None => Ok(None),
-        Some(
-            Packet {
-                parcel,
-                pause,
-                ticks,
-            },
-        ) => match board.give(parcel, pause) {
+        Some(Packet { reply, ticks }) => match board.give(reply) {
             Ok(()) => Ok(Some(ticks)),
             Err(refused) => Err(refused.error),
         },

@@ -130,19 +130,14 @@ fn run_out<'l, 'p, R: Wait, G: Gate>(
 ) -> Result<Packet, OutOfMemory>
     requires plan { (name_of post.now.lock.now).plan.now ≡ post.now.plan.now }
     requires leased { HasLease (name_of post.now.lock.now) (knowledge pass.now) post.now.number parcel }
-    ensures { IfOk result (λ p. HasPaused (name_of post.now.lock.now) (knowledge pass.now) post.now.number p.parcel p.pause) }
+    ensures { IfOk result (λ p. HasPaused (name_of post.now.lock.now) (knowledge pass.now) post.now.number p.reply.lease p.reply.pause) }
 {
-    let mut parcel = parcel;
     let lease = parcel.lease();
     post.gate.reach(lease.ticket, &lease.path);
     let before = lease.actor.ticks();
-    let pause = parcel.run(post.alloc, &post.plan.program)?;
-    let ticks = before.saturating_sub(parcel.lease().actor.ticks());
-    Ok(Packet {
-        parcel,
-        pause,
-        ticks,
-    })
+    let reply = parcel.run(post.alloc, &post.plan.program)?;
+    let ticks = before.saturating_sub(reply.lease().actor.ticks());
+    Ok(Packet { reply, ticks })
 }
 
 /// Stops the workers for want of memory.

@@ -35,6 +35,7 @@ use Rattle.wave_board.specs.declared.trail.Trail.TheVariants.{Halt}
 use Rattle.wave_board.specs.declared.returned.Returned.{Returned}
 use Rattle.wave_board.specs.Boards.{InEachState, IsAt, IsStanding, StandsFor as BoardStandsFor, StandsStill, history_of}
 use Rattle.wave_board.specs.Giving.{CanGive, Gives, IsGiven}
+use Rattle.wave_board.specs.Replies.{Ran, ran}
 use Rattle.wave_board.specs.Taking.{IsAppended, IsFinished, IsLeased, MayTake}
 use Rattle.wave_board.proofs.Leased.{in_hand}
 use Rattle.wave_board.proofs.Staying.{finished_on, hand_on}
@@ -195,8 +196,7 @@ module _ (plan : declared.Plan) (b b' : Board) (lease : Lease) (why : Pause) (x 
   given_back (Ok u) gives given = ready_given plan b lease why b' x gives given
   given_back (Err e) gives given = tt
 
-  pub refused : HandsStayOver (plan_actors (plan_of x.stands.origin.plan.now).program) → (r : Result (Unit {0}) Returned) → IfErr r (λ e. (e.parcel ≡ lease) × (e.pause ≡ why)) → OnErr r (StandsStill b b') → OnErr r (history_of b' ≡ history_of b)
-      → IfErr r (λ e. HasRun plan b' e.parcel e.pause)
+  pub refused : HandsStayOver (plan_actors (plan_of x.stands.origin.plan.now).program) → (r : Result (Unit {0}) Returned) → IfErr r (λ e. e.reply ≡ ran lease why) → OnErr r (StandsStill b b') → OnErr r (history_of b' ≡ history_of b)
+      → IfErr r (λ e. HasRun plan b' e.reply.lease e.reply.pause)
   refused stay (Ok u) same still e = tt
-  refused stay (Err r) same still e =
-      subst (λ (l : Lease). HasRun plan b' l r.pause) (sym same.0) (subst (λ (p : Pause). HasRun plan b' lease p) (sym same.1) (run_same plan b b' still e lease why x stay))
+  refused stay (Err r) same still e = subst (λ (z : Ran). HasRun plan b' z.lease z.pause) (sym same) (run_same plan b b' still e lease why x stay)

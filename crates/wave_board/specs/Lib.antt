@@ -1,6 +1,7 @@
 pub mod Boards
 pub mod Taking
 pub mod Giving
+pub mod Replies
 pub mod Fresh
 pub mod Crews
 pub mod Staying

@@ -9,13 +9,14 @@ ghost use Rattle.wave_board.specs.declared.trail.Trail.TheVariants.{Halt};
 ghost use Rattle.wave_board.specs.Boards.{StandsFor, StandsStill, history_of};
 
 use crate::crew::Crew;
+use crate::holder::Holder;
 use crate::origin::Origin;
 use crate::trail::{StopCause, Trail};
 use kept_lock::Kept;
 use label_log::Recorder;
 use std::alloc::Global;
 use wave_base::{OutOfMemory, Start, Worker};
-use wave_effects::{Lease, Plan};
+use wave_effects::Plan;
 use wave_machine::Machine;
 
 /// Who stopped the workers, why, and after how many labels of the journal.
@@ -38,8 +39,8 @@ pub struct Board<'p> {
     pub(crate) word: Option<StopWord>,
     // What its workers left for each other.
     pub(crate) crew: Crew,
-    // The box of a lease that came back, for the next one.
-    pub(crate) spare: Option<Box<Option<Lease>>>,
+    // The box of a segment that came back, for the next one.
+    pub(crate) spare: Option<Box<Holder>>,
 }
 
 impl<'p> Kept for Board<'p> {

@@ -5,26 +5,29 @@ ghost use Rattle.wave_board.specs.Boards.{StandsStill, history_of};
 ghost use Rattle.wave_board.specs.Giving.{CanGive, Gives, IsGiven};
 
 use crate::board::Board;
-use crate::parcel::Parcel;
+use crate::reply::Reply;
 use crate::returned::Returned;
-use wave_base::Pause;
-use wave_effects::{Lease, Refused};
+use wave_effects::Refused;
 
 impl<'p> Board<'p> {
     /// Takes the Stop of a segment that is out: lease and pause are what one segment gave on what the lease's worker has in its hand.
     /// After want of memory they come back as they were, and the board is as before.
-    pub fn give(&mut self, parcel: Parcel, pause: Pause) -> Result<(), Returned>
-        requires { CanGive self.old parcel pause }
-        ensures stands { OnOk result (Gives self.old parcel pause self.new) }
-        ensures given { OnOk result (IsGiven self.old self.new parcel) }
-        ensures refused { IfErr result (λ r. (r.parcel ≡ parcel) × (r.pause ≡ pause)) }
+    pub fn give(&mut self, reply: Reply) -> Result<(), Returned>
+        requires { CanGive self.old reply.lease reply.pause }
+        ensures stands { OnOk result (Gives self.old reply.lease reply.pause self.new) }
+        ensures given { OnOk result (IsGiven self.old self.new reply.lease) }
+        ensures refused { IfErr result (λ r. r.reply ≡ reply) }
         ensures still { OnErr result (StandsStill self.old self.new) }
         ensures same { OnErr result (history_of self.new ≡ history_of self.old) }
     {
-        let (place, lease) = parcel.open();
-        match self.put_back(lease, pause) {
-            Ok(()) => {
-                self.spare = Some(place);
+        if let Err(error) = self.journal.reserve(&reply.lease().path) {
+            return Err(Returned { reply, error });
+        }
+        let (holder, lease, pause) = reply.open();
+        match self.machine.stop(lease, pause) {
+            Ok(label) => {
+                self.journal.push_reserved(&label);
+                self.spare = Some(holder);
                 Ok(())
             }
             Err(
@@ -34,38 +37,9 @@ impl<'p> Board<'p> {
                     error,
                 },
             ) => {
-                let parcel = Parcel::of(place, lease);
-                Err(Returned {
-                    parcel,
-                    pause,
-                    error,
-                })
+                let reply = Reply::of(holder, lease, pause);
+                Err(Returned { reply, error })
             }
-        }
-    }
-
-    // The same of the lease itself.
-    fn put_back(&mut self, lease: Lease, pause: Pause) -> Result<(), Refused>
-        requires { CanGive self.old lease pause }
-        ensures stands { OnOk result (Gives self.old lease pause self.new) }
-        ensures given { OnOk result (IsGiven self.old self.new lease) }
-        ensures refused { IfErr result (λ r. (r.lease ≡ lease) × (r.pause ≡ pause)) }
-        ensures still { OnErr result (StandsStill self.old self.new) }
-        ensures same { OnErr result (history_of self.new ≡ history_of self.old) }
-    {
-        if let Err(error) = self.journal.reserve(&lease.path) {
-            return Err(Refused {
-                lease,
-                pause,
-                error,
-            });
-        }
-        match self.machine.stop(lease, pause) {
-            Ok(label) => {
-                self.journal.push_reserved(&label);
-                Ok(())
-            }
-            Err(refused) => Err(refused),
         }
     }
 }

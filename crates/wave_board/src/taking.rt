@@ -7,13 +7,13 @@ ghost use Rattle.wave_board.specs.Taking.{MayTake, Took};
 ghost use Rattle.wave_board.specs.inner.Doing.{Appends, CanAppend, Chooses};
 
 use crate::board::Board;
+use crate::holder::Holder;
 use crate::known::{idle_hands_are_empty, lists_are_known};
 use crate::parcel::Parcel;
 use crate::turn::Turn;
 use label_log::path_in;
 use std::alloc::Global;
 use wave_base::{OutOfMemory, Path, Worker};
-use wave_effects::Lease;
 use wave_labels::{Act, Label};
 
 impl<'p> Board<'p> {
@@ -71,10 +71,10 @@ impl<'p> Board<'p> {
         let root = Path::root();
         self.journal.reserve(path_in(&label.act, &root))?;
         if is_start(&label.act) {
-            let place = place_for(self.alloc, &mut self.spare)?;
+            let holder = holder_for(self.alloc, &mut self.spare)?;
             let lease = self.machine.take_start(label)?;
             self.journal.push_reserved(label);
-            return Ok(Turn::Segment(Parcel::of(place, lease)));
+            return Ok(Turn::Segment(Parcel::of(holder, lease)));
         }
         self.machine.take(label)?;
         self.journal.push_reserved(label);
@@ -82,14 +82,17 @@ impl<'p> Board<'p> {
     }
 }
 
-// A box for a lease: the one that is spare, or a new one.
-fn place_for(
-    alloc: Global,
-    spare: &mut Option<Box<Option<Lease>>>,
-) -> Result<Box<Option<Lease>>, OutOfMemory> {
+// A box for a segment: the one that is spare, or a new one.
+fn holder_for(alloc: Global, spare: &mut Option<Box<Holder>>) -> Result<Box<Holder>, OutOfMemory> {
     match spare.take() {
-        Some(place) => Ok(place),
-        None => Ok(Box::new(alloc, None)?),
+        Some(holder) => Ok(holder),
+        None => {
+            let empty = Holder {
+                lease: None,
+                pause: None,
+            };
+            Ok(Box::new(alloc, empty)?)
+        }
     }
 }
 

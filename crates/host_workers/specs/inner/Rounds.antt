@@ -57,7 +57,7 @@ module _ (origin : Origin) (pass : Known Trail) (worker : Worker) where
   -- what the worker brings to its next visit: a segment that was run, or nothing
   abbrev pub Brings : Option Packet → Type 0
   Brings None = IsReady origin pass worker
-  Brings (Some p) = HasPaused p.parcel p.pause
+  Brings (Some p) = HasPaused p.reply.lease p.reply.pause
 
   -- what a worker got, and what its pass knows then
   abbrev pub Asked : Result Task OutOfMemory → Type 0

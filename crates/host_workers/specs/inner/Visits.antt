@@ -25,12 +25,12 @@ use Rattle.host_workers.specs.declared.task.Task.TheVariants.{Segment, Again, Re
 -- what the worker brings may be given back
 abbrev pub CanBring : Board → Option Packet → Type 0
 CanBring before None = Unit {0}
-CanBring before (Some p) = CanGive before p.parcel p.pause
+CanBring before (Some p) = CanGive before p.reply.lease p.reply.pause
 
 -- it was given back; with nothing the board is as it was
 abbrev pub IsBrought : Board → Option Packet → Board → Type 0
 IsBrought before None after = after ≡ before
-IsBrought before (Some p) after = Gives before p.parcel p.pause after × IsGiven before after p.parcel
+IsBrought before (Some p) after = Gives before p.reply.lease p.reply.pause after × IsGiven before after p.reply.lease
 
 -- ---- what is taken
 

@@ -10,8 +10,8 @@ use plan_actors::PlanActors;
 use std::alloc::Global;
 use std::process::Abort;
 use tests_machine::Case;
-use wave_base::{OutOfMemory, Pause, Start, Worker};
-use wave_board::{Board, Parcel, Returned, Turn};
+use wave_base::{OutOfMemory, Start, Worker};
+use wave_board::{Board, Parcel, Reply, Returned, Turn};
 use wave_effects::Plan;
 use wave_theory::hands_stay_over;
 
@@ -138,30 +138,29 @@ pub(super) fn give_back(
     requires { IsOut plan.now board.old parcel }
     ensures { OnOk result (IsReady plan.now board.new) }
 {
-    let mut parcel = parcel;
-    let pause = parcel.run(alloc, &plan.program)?;
-    match give(plan, board, parcel, pause) {
+    let reply = parcel.run(alloc, &plan.program)?;
+    match give(plan, board, reply) {
         Ok(()) => Ok(()),
         Err(returned) => give_again(plan, board, returned),
     }
 }
 
 // Gives a segment back that was run. After want of memory it comes back.
-fn give(plan: &Plan, board: &mut Board, parcel: Parcel, pause: Pause) -> Result<(), Returned>
-    requires { HasRun plan.now board.old parcel pause }
+fn give(plan: &Plan, board: &mut Board, reply: Reply) -> Result<(), Returned>
+    requires { HasRun plan.now board.old reply.lease reply.pause }
     ensures ready { OnOk result (IsReady plan.now board.new) }
-    ensures again { IfErr result (λ r. HasRun plan.now board.new r.parcel r.pause) }
+    ensures again { IfErr result (λ r. HasRun plan.now board.new r.reply.lease r.reply.pause) }
 {
     hands_stay_over::<PlanActors>();
-    board.give(parcel, pause)
+    board.give(reply)
 }
 
 // Once more, after want of memory.
 fn give_again(plan: &Plan, board: &mut Board, returned: Returned) -> Result<(), OutOfMemory>
-    requires { HasRun plan.now board.old returned.parcel returned.pause }
+    requires { HasRun plan.now board.old returned.reply.lease returned.reply.pause }
     ensures { OnOk result (IsReady plan.now board.new) }
 {
-    match give(plan, board, returned.parcel, returned.pause) {
+    match give(plan, board, returned.reply) {
         Ok(()) => Ok(()),
         Err(returned) => Err(returned.error),
     }

@@ -8,4 +8,4 @@ pub run-requires-clause-may_run : goal.run-requires-clause-may_run
 run-requires-clause-may_run c = c.requires.may_run
 
 pub give-requires : goal.give-requires
-give-requires c = has_run c.args.plan.now c.args.board.now c.args.parcel c.run.new.self c.in_ok-pause.pause c.requires c.run.ensures.worker c.in_ok-pause.ensures.segment
+give-requires c = has_run c.args.plan.now c.args.board.now c.args.parcel c.in_ok-reply.reply.lease c.in_ok-reply.reply.pause c.requires c.in_ok-reply.ensures.worker c.in_ok-reply.ensures.segment

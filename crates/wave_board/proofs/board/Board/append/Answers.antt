@@ -17,14 +17,14 @@ returns-in_err-reserve-clause-stands c =
     let after : Board = record c.args.self.now { journal = c.reserve.new.self } in
     still c.args.self.now after c.reserve.ensures.labels refl (λ h. h) (λ start s stands. stands)
 
-pub returns-in_err-place-clause-stands : goal.returns-in_err-place-clause-stands
-returns-in_err-place-clause-stands c =
-    let after : Board = record c.args.self.now { journal = c.reserve.new.self; spare = c.place_for.new.spare } in
+pub returns-in_err-holder-clause-stands : goal.returns-in_err-holder-clause-stands
+returns-in_err-holder-clause-stands c =
+    let after : Board = record c.args.self.now { journal = c.reserve.new.self; spare = c.holder_for.new.spare } in
     still c.args.self.now after c.reserve.ensures.labels refl (λ h. h) (λ start s stands. stands)
 
 pub returns-in_err-lease-clause-stands : goal.returns-in_err-lease-clause-stands
 returns-in_err-lease-clause-stands c =
-    let after : Board = record c.args.self.now { machine = c.take_start.new.self; journal = c.reserve.new.self; spare = c.place_for.new.spare } in
+    let after : Board = record c.args.self.now { machine = c.take_start.new.self; journal = c.reserve.new.self; spare = c.holder_for.new.spare } in
     still c.args.self.now after c.reserve.ensures.labels c.take_start.ensures.plan (λ h. h) c.in_err-lease.ensures.keeps
 
 pub returns-in_err-take-clause-stands : goal.returns-in_err-take-clause-stands
@@ -35,14 +35,14 @@ returns-in_err-take-clause-stands c =
 pub returns-then-is_start-clause-stands : goal.returns-then-is_start-clause-stands
 returns-then-is_start-clause-stands c =
     let b = c.args.self.now in
-    let after : Board = record b { machine = c.take_start.new.self; journal = c.push_reserved.new.self; spare = c.place_for.new.spare } in
+    let after : Board = record b { machine = c.take_start.new.self; journal = c.push_reserved.new.self; spare = c.holder_for.new.spare } in
     taken b after c.args.label.now (c.push_reserved.ensures ∙ ap (λ xs. xs ++ c.args.label.now ∷ []) c.reserve.ensures.labels) refl c.take_start.ensures.plan c.requires.can.enabled c.in_ok-lease.ensures.takes
 
 pub returns-then-is_start-clause-took : goal.returns-then-is_start-clause-took
 returns-then-is_start-clause-took c =
     let b = c.args.self.now in
     let lease = c.in_ok-lease.lease in
-    let after : Board = record b { machine = c.take_start.new.self; journal = c.push_reserved.new.self; spare = c.place_for.new.spare } in
+    let after : Board = record b { machine = c.take_start.new.self; journal = c.push_reserved.new.self; spare = c.holder_for.new.spare } in
     let items = c.push_reserved.ensures ∙ ap (λ xs. xs ++ c.args.label.now ∷ []) c.reserve.ensures.labels in
     let plan = c.take_start.ensures.plan in
     let kind : is_start c.args.label.now.act ≡ true = sym c.if-is_start.ensures in
